@@ -575,6 +575,32 @@ def doubted(options, pulses, length):
     return len(track.fine) - len(track.frames)
 
 
+def seconds_of(picos):
+    """Some picoseconds as seconds: with six decimals, rounded down, or with none if these are zeros."""
+    whole, part = divmod(picos // 10**6, 10**6)
+    return "%d.%06d" % (whole, part) if part else str(whole)
+
+
+def closing(options, length, text, printed):
+    """What is said at the end of the lines: how many there are after the header, and how many of them have a time in what was printed."""
+    lines = text.split(b"\n")
+    if not lines[-1]:
+        lines.pop()
+    lines = lines[options.header:]
+    timed = sum(line[:1].isdigit() for line in printed.split(b"\n")[options.header:])
+    numbers = [number(options, line) for line in lines]
+    found = [(each * 10**6).__floor__() - options.offset * 10**6 for each in numbers if each is not None]
+    inside = [int(picos) for picos in found if 0 <= picos < length * 10**6]
+    one = len(lines) == 1
+    said = "%d %s, %d with a time, %d without" % (len(lines), "line" if one else "lines", timed, len(lines) - timed)
+    if None in numbers:
+        said += ", %d of these without a number" % numbers.count(None)
+    whole = seconds_of(length * 10**6)
+    if not inside:
+        return said + "; none is within the %s s of the track" % whole
+    return said + "; %s %s s of %s s of the track" % ("it covers" if one else "they cover", seconds_of(max(inside) - min(inside)), whole)
+
+
 def aligned(options, pulses, length, text):
     """What is printed for the lines, and the status: 1 also if no frame has a time, or some are not believed."""
     track = Track(options, pulses, length)

@@ -20,6 +20,7 @@ from rows.tools_long import STEP, code, damaged, dump
 in_process.MAINS["irig_align"] = align_program.main
 SIZES = (100000, 50000, 34000, 15000)  # pulses of a window: so there are 1, 2, 3 and 7
 LENGTH = 1000 * 100 * STEP
+NEVER = 1 << 62  # microseconds: the last windows begin after the end of the track
 NUMBERS = ("%d", "%d", "%d.5", "+%d", " %d ", "%d.000001e0", "%de-1", "%dE+1", "-%d", "%de99999", "%d.", "x%d", "%d_0", "", "%de", "%d x")
 CODE = ("--format=B", "--expression=4")
 # An irig_time that holds few pulses, and one that fails in a window
@@ -98,7 +99,7 @@ def in_any_size():
 
     def holds():
         for given, words in (
-                (lines, [column]), (lines, [column, "--why"]), (lines, [column, "--alone", "--form=seconds"]),
+                (lines, [column]), (lines, [column, "--why", "--quiet"]), (lines, [column, "--alone", "--form=seconds"]),
                 (odd.encode()[:-1], ["--why", "--year=1977"]), (odd.encode(), ["--comma=;", "--unit=ns", "--offset=-1.0005E+09"]),
                 (odd.encode(), ["--comma=;", "--unit=100ns", "--offset=-1.0005E+07"]),
                 (csv.encode(), ["--comma=,", column, "--header=2", "--name=UTC", "--unit=s", "--offset=-4.5", "--form=calendar"]),
@@ -133,8 +134,8 @@ def by_halves():
     def holds():
         for held in (60000, 30000, 12000):
             words = [*CODE, "--column=2", "--why", "track.vcd"]
-            yield same("%d are held" % held, aligned_by_few(held, LENGTH, words, plain(2000)), whole(words, plain(2000)))
-        found = aligned_by_few(30000, LENGTH, words, plain(2000), "V14 OutOfMemory")
+            yield same("%d are held" % held, aligned_by_few(held, NEVER, words, plain(2000)), whole(words, plain(2000)))
+        found = aligned_by_few(30000, NEVER, words, plain(2000), "V14 OutOfMemory")
         yield same("there is memory for a part", found, whole(words, plain(2000)))
         status, printed, said = aligned_by_few(30000, LENGTH // 2, words, plain(2000))
         yield same("a window fails", (status, printed, said), (4, b"", "irig_time: input failed\n"))
@@ -148,7 +149,7 @@ def around_noise():
     def holds():
         for name in ("track.vcd", "set.vcd"):
             words = [*CODE, "--column=2", name]
-            found = aligned_by_few(30000, LENGTH, words, plain(9000))[1].splitlines()
+            found = aligned_by_few(30000, NEVER, words, plain(9000))[1].splitlines()
             wanted = whole(words, plain(9000))[1].splitlines()
             differ = [(one, other) for one, other in zip(found, wanted) if one != other]
             yield same("lines", len(found), len(wanted))

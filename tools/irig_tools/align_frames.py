@@ -8,6 +8,7 @@ from dataclasses import dataclass
 from typing import Dict, List, NamedTuple, Optional, Sequence, Tuple
 
 from .align_runs import Aligner, Call
+from .align_tally import length_said
 from .editor import Problem
 from .units import ELEMENTS
 
@@ -111,6 +112,15 @@ class LongTrack:
         """The frames in each window; none for one that has too many pulses."""
         runs = self.aligner.run([Call([*self.code, *words, "--table", *window_words(*span)]) for span in spans], "looking for frames")
         return [None if run.is_too_long() else _frames_in(run.checked().printed(), span[0]) for run, span in zip(runs, spans)]
+
+    def length(self) -> int:
+        """The microseconds of the track: the last windows can be after its end, and that before them says where it is."""
+        for start, stop in reversed(self.spans):
+            run = self.aligner.run([Call([*self.code, *window_words(start, stop)])], "looking for the end")[0].checked()
+            found = length_said(run.said)
+            if found:
+                return start + found
+        return 0
 
     def parts(self) -> List[AlignedPart]:
         """The parts, one after the other, from 0 to the end. A part that cannot be read whole with its margin is parted."""

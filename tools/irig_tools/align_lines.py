@@ -76,10 +76,10 @@ class LineTimes:
     places: int
     offset: int  # picoseconds
 
-    def time(self, line: bytes) -> Optional[int]:
-        """The microsecond of a line; none if its column has no number."""
+    def picos(self, line: bytes) -> Optional[int]:
+        """When a line is, in picoseconds; none if its column has no number."""
         found = self.pattern.match(line[:-1] if line.endswith(b"\n") else line)
-        return None if found is None else (picos_of(found, self.places) - self.offset) // PICOS
+        return None if found is None else picos_of(found, self.places) - self.offset
 
 
 def each_line(stream: IO[bytes]) -> Iterator[Tuple[bytes, bool]]:

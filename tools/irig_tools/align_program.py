@@ -13,6 +13,7 @@ from typing import IO, Iterator, List, Optional, Tuple
 from .align_frames import TRACK_PULSES, LongTrack
 from .align_lines import PICOS, UNIT_PLACES, LineTimes, each_line, offset_of_lines, offset_text, pattern_of
 from .align_runs import Aligner, AlignerEnded, AlignerRun, Call
+from .align_tally import LineTally
 from .align_years import years_of
 from .command import run, unchanged
 from .editor import Problem, called, find_beside, progress_to
@@ -38,6 +39,7 @@ YEAR = Option("--year", "N", "the year of the first frame, or of the century, as
 FORM = Option("--form", "FORM", "ordinal, calendar or seconds; ordinal, if it is not given", choices=("ordinal", "calendar", "seconds"))
 ALONE = Option("--alone", about="takes each frame that reads well, supported by another or not")
 WHY = Option("--why", about="says why a line has no time, by a word")
+ALIGN_QUIET = Option("--quiet", about="no line at the end says what was done")
 ALIGN_JOBS = Option("--jobs", "N", "that many runs of irig_time at once; if not given, one for each processor", whole(1))
 OF_FRAMES = (ALIGN_WIRE, ALIGN_FORMAT, ALIGN_EXPRESSION, ALONE)
 OF_HEADER = (HEADER, COLUMN_NAME)
@@ -51,7 +53,7 @@ order of the lines.
 
   irig_align --format G repaired.vcd < samples.csv > timed.csv
 """, (ALIGN_WIRE, ALIGN_FORMAT, ALIGN_EXPRESSION, TIME_UNIT, OFFSET, LINE_COLUMN, COMMA, HEADER, COLUMN_NAME, YEAR, FORM, ALONE, WHY,
-      ALIGN_JOBS), """\
+      ALIGN_QUIET, ALIGN_JOBS), """\
 irig_time is the one next to the editor, which IRIG_ED names, or the path. The status
 is that of irig_time: 0 if all is right, 1 if the column of some lines has no number,
 if no frame has a time, or if some frames are not believed, 2 for a mistake
@@ -95,7 +97,7 @@ def aligned(given: Given, program: str, path: str) -> Tuple[str, int]:
     """What irig_time has said, and the status."""
     is_file = os.path.isfile(path)
     if not is_file or named_size() is None:
-        words = aligner_words(given, *OF_FRAMES, *OF_LINES, *OF_HEADER, OFFSET, YEAR)
+        words = aligner_words(given, *OF_FRAMES, *OF_LINES, *OF_HEADER, OFFSET, YEAR, ALIGN_QUIET)
         whole = aligned_whole([program, *words, "--", path])
         if whole is not None:
             return whole
@@ -151,20 +153,21 @@ class LongAlignment:
         step = INTERVAL[given.text(ALIGN_FORMAT) or "B"]
         self.track = LongTrack(aligner, aligner_words(given, *OF_FRAMES), step, (named_size() or TRACK_PULSES) * step)
         self.places = UNIT_PLACES[given.text(TIME_UNIT) or "us"]
-        self.have_numbers, self.number = True, 0
+        self.number = 0
 
     def run(self, stream: IO[bytes], out: IO[bytes]) -> int:
         given, lines = self.given, each_line(stream)
         header = list(islice(lines, given.number(HEADER) or 0))
         self.number = sum(is_good for _, is_good in header)
         words = aligner_words(given, *OF_FRAMES, *OF_LINES, *OF_HEADER, OFFSET, YEAR)
-        asked = Call([*words, "--from=0", "--to=0"], b"".join(line for line, is_good in header if is_good))
+        asked = Call([*words, ALIGN_QUIET.name, "--from=0", "--to=0"], b"".join(line for line, is_good in header if is_good))
         out.write(self.aligner.run([asked], "looking at the track")[0].checked().printed())
         if header and not header[-1][1]:
             return self.too_long()
         self.track.read()
         self.parts = self.track.parts()
         self.years = years_of(self.track, self.parts, given.number(YEAR))
+        self.tally = LineTally(self.track.length())
         return self._of_lines(lines, out)
 
     def _of_lines(self, lines: Iterator[Tuple[bytes, bool]], out: IO[bytes]) -> int:
@@ -176,11 +179,10 @@ class LongAlignment:
             if not is_good:
                 self._write(batch, offset, out)
                 return self.too_long()
-            time = times.time(line)
-            if time is None:
-                self.have_numbers = False
-            elif not self.parts[part].begin <= time < self.parts[part].end:
-                part = max(0, bisect_right(begins, time) - 1)
+            picos = times.picos(line)
+            self.tally.add(picos)
+            if picos is not None and not self.parts[part].begin <= picos // PICOS < self.parts[part].end:
+                part = max(0, bisect_right(begins, picos // PICOS) - 1)
             batch.add(part, line)
             self.number += 1
             if batch.size > BATCH:
@@ -204,6 +206,7 @@ class LongAlignment:
             if len(found) != many:
                 raise Problem("irig_time has printed fewer lines than it has read")
             out.writelines(found)
+            self.tally.timed += sum(line[:1].isdigit() for line in found)
         for each in runs.values():
             os.unlink(each.path)
 
@@ -211,7 +214,8 @@ class LongAlignment:
         part = self.parts[number]
         options = [option for option in OF_LINES if option is not WHY or part.start < part.stop]
         shifted = "--offset=" + offset_text(offset + part.start * PICOS, self.places)
-        return Call([*aligner_words(self.given, *OF_FRAMES, *options), shifted, *self.years[number], *part.words()], lines)
+        words = [*aligner_words(self.given, *OF_FRAMES, *options), ALIGN_QUIET.name]
+        return Call([*words, shifted, *self.years[number], *part.words()], lines)
 
     def too_long(self) -> int:
         complain("line %d: too long" % (self.number + 1), COMMAND.name)
@@ -223,7 +227,9 @@ class LongAlignment:
             complain(DOUBTED % (self.given.names[0], doubted), COMMAND.name)
         elif not self.track.frames:
             complain(NO_FRAME_TIMED % self.given.names[0], COMMAND.name)
-        return ALL_RIGHT if self.track.frames and not doubted and self.have_numbers else FOUND
+        if not self.given.values.get(ALIGN_QUIET.name):
+            complain(self.tally.text(), COMMAND.name)
+        return ALL_RIGHT if self.track.frames and not doubted and not self.tally.unnumbered else FOUND
 
 
 def main() -> int:

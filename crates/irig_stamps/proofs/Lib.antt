@@ -4,6 +4,8 @@ pub mod MovedPoints
 pub mod Late
 pub mod Words
 pub mod StampedLines
+pub mod Tallied
+pub mod Moments
 pub mod Endings
 pub mod DateSteps
 pub mod TakenBytes

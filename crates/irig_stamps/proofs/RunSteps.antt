@@ -13,13 +13,14 @@ use Rattle.irig_stamps.specs.Runs.{Broke, IsCause, Ran, ending_of}
 use Rattle.irig_stamps.specs.{Front.AppendsFront, Stamped.Stamped, declared.fault.PrintFault.PrintFault, declared.fault.RunFault.RunFault}
 use Rattle.irig_stamps.specs.{declared.fault.TakeFault.TakeFault, declared.progress.Progress.Progress, declared.settings.Settings.Settings}
 use Rattle.irig_stamps.specs.declared.fault.TakeFault.TheVariants as take
-use Rattle.irig_stamps.proofs.Endings.{ending-none, ending-rest}
+use Rattle.irig_stamps.specs.{Tallies.no_tally, declared.tally.Tally.Tally}
+use Rattle.irig_stamps.proofs.{Endings.ending-none, Endings.ending-rest, Tallied.none-tallied}
 
 module _ (f : FormatView) (ps : List Pulse) (s : Settings) where
   -- nothing more was printed
-  pub stopped : (start a b from to : Option (List ℕ)) (rest more : List ℕ) (count : ℕ) (all : Bool) (fault : RunFault)
-      → Underway f ps s start a from to rest count all → Consumes a b more → IsCause fault more [] rest count → Broke f ps s start b from to fault
-  stopped start a b from to rest more count all fault h read cause = record {
+  pub stopped : (start a b from to : Option (List ℕ)) (rest more : List ℕ) (count : ℕ) (tally : Tally) (fault : RunFault)
+      → Underway f ps s start a from to rest count tally → Consumes a b more → IsCause fault more [] rest count → Broke f ps s start b from to fault
+  stopped start a b from to rest more count tally fault h read cause = record {
     bytes = h.bytes;
     ending = [];
     more = more;
@@ -28,25 +29,26 @@ module _ (f : FormatView) (ps : List Pulse) (s : Settings) where
     front = h.text;
     back = [];
     count = count;
-    all = all;
+    tally = tally;
     read = Consumes-trans start a b h.bytes more h.read read;
     is_ending = inl refl;
-    stamped = subst (λ t. Stamped f ps s t h.text rest count all) (sym (append-nil h.bytes)) h.stamped;
+    stamped = subst (λ t. Stamped f ps s t h.text rest count tally) (sym (append-nil h.bytes)) h.stamped;
     part = sym (append-nil h.text);
     printed = h.printed;
     cause = cause;
   }
 
-  pub read-failed : (start a b from to : Option (List ℕ)) (rest : List ℕ) (count : ℕ) (all : Bool) → Underway f ps s start a from to rest count all → Keeps a b
+  pub read-failed : (start a b from to : Option (List ℕ)) (rest : List ℕ) (count : ℕ) (tally : Tally)
+      → Underway f ps s start a from to rest count tally → Keeps a b
       → Broke f ps s start b from to ReadFailed
-  read-failed start a b from to rest count all h kept =
-      stopped start a b from to rest [] count all ReadFailed h (Consumes-kept a a b [] (Consumes-nil a) kept) (refl, refl)
+  read-failed start a b from to rest count tally h kept =
+      stopped start a b from to rest [] count tally ReadFailed h (Consumes-kept a a b [] (Consumes-nil a) kept) (refl, refl)
 
   -- only a front was printed of what comes out for a front of what was read
-  pub print-failed : (start a b from to end : Option (List ℕ)) (rest part front more left text : List ℕ) (count n : ℕ) (all b2 : Bool)
-      (why : PrintFault) (h : Underway f ps s start a from to rest count all) → Consumes a b part → part ≡ front ++ more
-      → Stamped f ps s (h.bytes ++ front) (h.text ++ text) left n b2 → AppendsFront to end text → Broke f ps s start b from end (PrintFailed why)
-  print-failed start a b from to end rest part front more left text count n all b2 why h read cut stamped printed = record {
+  pub print-failed : (start a b from to end : Option (List ℕ)) (rest part front more left text : List ℕ) (count n : ℕ) (tally t2 : Tally)
+      (why : PrintFault) (h : Underway f ps s start a from to rest count tally) → Consumes a b part → part ≡ front ++ more
+      → Stamped f ps s (h.bytes ++ front) (h.text ++ text) left n t2 → AppendsFront to end text → Broke f ps s start b from end (PrintFailed why)
+  print-failed start a b from to end rest part front more left text count n tally t2 why h read cut stamped printed = record {
     bytes = h.bytes ++ front;
     ending = [];
     more = more;
@@ -55,10 +57,10 @@ module _ (f : FormatView) (ps : List Pulse) (s : Settings) where
     front = h.text ++ printed.front;
     back = printed.back;
     count = n;
-    all = b2;
+    tally = t2;
     read = subst (Consumes start b) (ap (λ t. h.bytes ++ t) cut ∙ sym (append_assoc h.bytes front more)) (Consumes-trans start a b h.bytes part h.read read);
     is_ending = inl refl;
-    stamped = subst (λ t. Stamped f ps s t (h.text ++ text) left n b2) (sym (append-nil (h.bytes ++ front))) stamped;
+    stamped = subst (λ t. Stamped f ps s t (h.text ++ text) left n t2) (sym (append-nil (h.bytes ++ front))) stamped;
     part = ap (λ t. h.text ++ t) printed.part ∙ sym (append_assoc h.text printed.front printed.back);
     printed = Appends-trans from to end h.text printed.front h.printed printed.appends;
     cause = printed.missing;
@@ -66,10 +68,10 @@ module _ (f : FormatView) (ps : List Pulse) (s : Settings) where
 
   -- the line after what was taken is too long
   pub too-long : (start a b from to end : Option (List ℕ)) (part text : List ℕ) (was is : Progress)
-      (h : Underway f ps s start a from to was.line.items was.count was.all) → Consumes a b part
+      (h : Underway f ps s start a from to was.line.items was.count was.tally) → Consumes a b part
       → (long : TakesUpTo f ps s part [] text was is) → Appends to end text → Broke f ps s start b from end (TooLong (counted is.count 1))
   too-long start a b from to end part text was is h read long printed =
-      let stamped = long.taken h.bytes h.text (subst (λ t. Stamped f ps s h.bytes t was.line.items was.count was.all) (sym (append-nil h.text)) h.stamped) in
+      let stamped = long.taken h.bytes h.text (subst (λ t. Stamped f ps s h.bytes t was.line.items was.count was.tally) (sym (append-nil h.text)) h.stamped) in
       record {
         bytes = h.bytes ++ long.front;
         ending = [];
@@ -79,11 +81,11 @@ module _ (f : FormatView) (ps : List Pulse) (s : Settings) where
         front = h.text ++ text;
         back = [];
         count = is.count;
-        all = is.all;
+        tally = is.tally;
         read = subst (Consumes start b) (ap (λ t. h.bytes ++ t) long.cut ∙ sym (append_assoc h.bytes long.front (long.byte ∷ long.others)))
             (Consumes-trans start a b h.bytes part h.read read);
         is_ending = inl refl;
-        stamped = subst (λ t. Stamped f ps s t (h.text ++ text) is.line.items is.count is.all) (sym (append-nil (h.bytes ++ long.front))) stamped;
+        stamped = subst (λ t. Stamped f ps s t (h.text ++ text) is.line.items is.count is.tally) (sym (append-nil (h.bytes ++ long.front))) stamped;
         part = sym (append-nil (h.text ++ text));
         printed = Appends-trans from to end h.text text h.printed printed;
         cause = (long.byte, long.others, refl, long.plain, long.long, refl, refl);
@@ -91,25 +93,25 @@ module _ (f : FormatView) (ps : List Pulse) (s : Settings) where
 
   -- why a run was broken off in which some bytes were not taken
   pub not-taken : (start a b from to end : Option (List ℕ)) (part old text : List ℕ) (was is : Progress) (fault : TakeFault) (why : RunFault) → old ≡ []
-      → Underway f ps s start a from to was.line.items was.count was.all → Consumes a b part
+      → Underway f ps s start a from to was.line.items was.count was.tally → Consumes a b part
       → TakesAs f ps s part old text was is (Err fault) → Stops to end text is.count fault why → Broke f ps s start b from end why
   not-taken start a b from to end part old text was is take.OutOfMemory why none h read taken stops =
       subst (λ w. Broke f ps s start b from end w) (sym stops.0) (subst (λ o. Broke f ps s start b from o OutOfMemory) (sym stops.1)
-      (stopped start a b from to was.line.items part was.count was.all OutOfMemory h read refl))
+      (stopped start a b from to was.line.items part was.count was.tally OutOfMemory h read refl))
   not-taken start a b from to end part old text was is take.TooLong why none h read taken (inl stops) =
       subst (λ w. Broke f ps s start b from end w) (sym stops.0)
       (too-long start a b from to end part text was is h read (subst (λ o. TakesUpTo f ps s part o text was is) none taken) stops.1)
   not-taken start a b from to end part old text was is take.TooLong why none h read taken (inr stops) =
       let long = subst (λ o. TakesUpTo f ps s part o text was is) none taken in
-      let stamped = long.taken h.bytes h.text (subst (λ t. Stamped f ps s h.bytes t was.line.items was.count was.all) (sym (append-nil h.text)) h.stamped) in
+      let stamped = long.taken h.bytes h.text (subst (λ t. Stamped f ps s h.bytes t was.line.items was.count was.tally) (sym (append-nil h.text)) h.stamped) in
       subst (λ w. Broke f ps s start b from end w) (sym stops.1)
-      (print-failed start a b from to end was.line.items part long.front (long.byte ∷ long.others) is.line.items text was.count is.count was.all is.all
+      (print-failed start a b from to end was.line.items part long.front (long.byte ∷ long.others) is.line.items text was.count is.count was.tally is.tally
       stops.0 h read long.cut stamped stops.2)
 
-  goes-on : (start a b from to end : Option (List ℕ)) (rest part left text : List ℕ) (count n : ℕ) (all b2 : Bool)
-      (h : Underway f ps s start a from to rest count all) → Consumes a b part
-      → Stamped f ps s (h.bytes ++ part) (h.text ++ text) left n b2 → Appends to end text → Underway f ps s start b from end left n b2
-  goes-on start a b from to end rest part left text count n all b2 h read stamped printed = record {
+  goes-on : (start a b from to end : Option (List ℕ)) (rest part left text : List ℕ) (count n : ℕ) (tally t2 : Tally)
+      (h : Underway f ps s start a from to rest count tally) → Consumes a b part
+      → Stamped f ps s (h.bytes ++ part) (h.text ++ text) left n t2 → Appends to end text → Underway f ps s start b from end left n t2
+  goes-on start a b from to end rest part left text count n tally t2 h read stamped printed = record {
     bytes = h.bytes ++ part;
     text = h.text ++ text;
     read = Consumes-trans start a b h.bytes part h.read read;
@@ -120,31 +122,32 @@ module _ (f : FormatView) (ps : List Pulse) (s : Settings) where
   -- all bytes were taken, and what comes out for them was printed or not
   pub all-taken : (start a b from to end : Option (List ℕ)) (part old text : List ℕ) (was is : Progress) (result : Result Bool RunFault) → old ≡ []
       → IfOk result (λ e. e ≡ false)
-      → Underway f ps s start a from to was.line.items was.count was.all → Consumes a b part
+      → Underway f ps s start a from to was.line.items was.count was.tally → Consumes a b part
       → Takes f ps s part old text was is → PrintsAll to end text result → GoesOn f ps s start b from end is result
   all-taken start a b from to end part old text was is (Ok false) none e h read taken printed =
-      let stamped = taken h.bytes h.text (subst (λ t. Stamped f ps s h.bytes t was.line.items was.count was.all)
+      let stamped = taken h.bytes h.text (subst (λ t. Stamped f ps s h.bytes t was.line.items was.count was.tally)
       (sym (ap (λ t. h.text ++ t) none ∙ append-nil h.text)) h.stamped) in
-      goes-on start a b from to end was.line.items part is.line.items text was.count is.count was.all is.all h read stamped printed
+      goes-on start a b from to end was.line.items part is.line.items text was.count is.count was.tally is.tally h read stamped printed
   all-taken start a b from to end part old text was is (Ok true) none e h read taken printed = absurd (true≢false e)
   all-taken start a b from to end part old text was is (Err fault) none e h read taken printed =
-      let stamped = taken h.bytes h.text (subst (λ t. Stamped f ps s h.bytes t was.line.items was.count was.all)
+      let stamped = taken h.bytes h.text (subst (λ t. Stamped f ps s h.bytes t was.line.items was.count was.tally)
       (sym (ap (λ t. h.text ++ t) none ∙ append-nil h.text)) h.stamped) in
       subst (λ w. Broke f ps s start b from end w) (sym printed.1)
-      (print-failed start a b from to end was.line.items part part [] is.line.items text was.count is.count was.all is.all
+      (print-failed start a b from to end was.line.items part part [] is.line.items text was.count is.count was.tally is.tally
       printed.0 h read (sym (append-nil part)) stamped printed.2)
 
   -- the end, if no line was begun
-  pub ended-whole : (start b from to : Option (List ℕ)) (rest : List ℕ) (count : ℕ) (all : Bool) → Underway f ps s start b from to rest count all → IsAtEnd b
-      → rest ≡ [] → Ran f ps s start b from to all
-  ended-whole start b from to rest count all h at_end none = record {
+  pub ended-whole : (start b from to : Option (List ℕ)) (rest : List ℕ) (count : ℕ) (tally : Tally)
+      → Underway f ps s start b from to rest count tally → IsAtEnd b
+      → rest ≡ [] → Ran f ps s start b from to tally
+  ended-whole start b from to rest count tally h at_end none = record {
     bytes = h.bytes;
     text = h.text;
     count = count;
     read = h.read;
     end = at_end;
-    stamped = subst (λ r. Stamped f ps s (h.bytes ++ ending_of h.bytes) h.text r count all) none
-        (subst (λ t. Stamped f ps s t h.text rest count all)
+    stamped = subst (λ r. Stamped f ps s (h.bytes ++ ending_of h.bytes) h.text r count tally) none
+        (subst (λ t. Stamped f ps s t h.text rest count tally)
         (sym (ap (λ t. h.bytes ++ t) (ending-none h.bytes rest h.stamped.lines h.stamped.cut none) ∙ append-nil h.bytes)) h.stamped);
     printed = h.printed;
   }
@@ -152,23 +155,23 @@ module _ (f : FormatView) (ps : List Pulse) (s : Settings) where
   -- the end of a line that no newline ends
   pub ended-line : (start b from to end : Option (List ℕ)) (old text : List ℕ) (was is : Progress) (result : Result Bool RunFault) → old ≡ []
       → was.line.items ≢ [] → is.line.items ≡ [] → IfOk result (λ e. e ≡ true)
-      → Underway f ps s start b from to was.line.items was.count was.all → IsAtEnd b
+      → Underway f ps s start b from to was.line.items was.count was.tally → IsAtEnd b
       → Takes f ps s (10 ∷ []) old text was is → PrintsAll to end text result → GoesOn f ps s start b from end is result
   ended-line start b from to end old text was is result none some new e h at_end taken printed =
       let lacks = ending-rest h.bytes was.line.items h.stamped.lines h.stamped.cut h.stamped.begun some in
-      let first = taken h.bytes h.text (subst (λ t. Stamped f ps s h.bytes t was.line.items was.count was.all)
+      let first = taken h.bytes h.text (subst (λ t. Stamped f ps s h.bytes t was.line.items was.count was.tally)
       (sym (ap (λ t. h.text ++ t) none ∙ append-nil h.text)) h.stamped) in
-      let stamped = subst (λ t. Stamped f ps s (h.bytes ++ t) (h.text ++ text) is.line.items is.count is.all) (sym lacks) first in
+      let stamped = subst (λ t. Stamped f ps s (h.bytes ++ t) (h.text ++ text) is.line.items is.count is.tally) (sym lacks) first in
       with_result result e printed stamped where
         with_result : (result : Result Bool RunFault) → IfOk result (λ e. e ≡ true) → PrintsAll to end text result
-            → Stamped f ps s (h.bytes ++ ending_of h.bytes) (h.text ++ text) is.line.items is.count is.all → GoesOn f ps s start b from end is result
+            → Stamped f ps s (h.bytes ++ ending_of h.bytes) (h.text ++ text) is.line.items is.count is.tally → GoesOn f ps s start b from end is result
         with_result (Ok true) e printed stamped = record {
           bytes = h.bytes;
           text = h.text ++ text;
           count = is.count;
           read = h.read;
           end = at_end;
-          stamped = subst (λ r. Stamped f ps s (h.bytes ++ ending_of h.bytes) (h.text ++ text) r is.count is.all) new stamped;
+          stamped = subst (λ r. Stamped f ps s (h.bytes ++ ending_of h.bytes) (h.text ++ text) r is.count is.tally) new stamped;
           printed = Appends-trans from to end h.text text h.printed printed;
         }
         with_result (Ok false) e printed stamped = absurd (false≢true e)
@@ -181,7 +184,7 @@ module _ (f : FormatView) (ps : List Pulse) (s : Settings) where
           front = h.text ++ printed.2.front;
           back = printed.2.back;
           count = is.count;
-          all = is.all;
+          tally = is.tally;
           read = subst (Consumes start b) (sym (append-nil h.bytes)) h.read;
           is_ending = inr (refl, at_end);
           stamped = stamped;
@@ -191,25 +194,25 @@ module _ (f : FormatView) (ps : List Pulse) (s : Settings) where
         })
 
   -- nothing yet
-  pub begun : (a from : Option (List ℕ)) → Underway f ps s a a from from [] 0 true
+  pub begun : (a from : Option (List ℕ)) → Underway f ps s a a from from [] 0 no_tally
   begun a from = record {
     bytes = [];
     text = [];
     read = Consumes-nil a;
-    stamped = record { lines = []; outs = []; cut = refl; begun = refl; each = tt; whole = refl; counts = omega arith; numbers = refl };
+    stamped = record { lines = []; outs = []; cut = refl; begun = refl; each = tt; whole = refl; counts = omega arith; tallied = none-tallied };
     printed = Appends-nil from;
   }
 
-  pub begun-with : (a from : Option (List ℕ)) (rest : List ℕ) (count : ℕ) (all : Bool) → rest ≡ [] → count ≡ 0 → all ≡ true
-      → Underway f ps s a a from from rest count all
-  begun-with a from rest count all r c l =
-      subst (λ x. Underway f ps s a a from from x count all) (sym r) (subst (λ x. Underway f ps s a a from from [] x all) (sym c)
+  pub begun-with : (a from : Option (List ℕ)) (rest : List ℕ) (count : ℕ) (tally : Tally) → rest ≡ [] → count ≡ 0 → tally ≡ no_tally
+      → Underway f ps s a a from from rest count tally
+  begun-with a from rest count tally r c l =
+      subst (λ x. Underway f ps s a a from from x count tally) (sym r) (subst (λ x. Underway f ps s a a from from [] x tally) (sym c)
       (subst (λ x. Underway f ps s a a from from [] 0 x) (sym l) (begun a from)))
 
   -- a read of no byte
-  pub read-nothing : (start a b from to : Option (List ℕ)) (rest : List ℕ) (count : ℕ) (all : Bool) → Underway f ps s start a from to rest count all
-      → Consumes a b [] → Underway f ps s start b from to rest count all
-  read-nothing start a b from to rest count all h read = record {
+  pub read-nothing : (start a b from to : Option (List ℕ)) (rest : List ℕ) (count : ℕ) (tally : Tally) → Underway f ps s start a from to rest count tally
+      → Consumes a b [] → Underway f ps s start b from to rest count tally
+  read-nothing start a b from to rest count tally h read = record {
     bytes = h.bytes;
     text = h.text;
     read = subst (Consumes start b) (append-nil h.bytes) (Consumes-trans start a b h.bytes [] h.read read);

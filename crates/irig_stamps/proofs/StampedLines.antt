@@ -1,15 +1,16 @@
 -- Lines that were stamped, and one more.
-use Rattle.std.proofs.Common.{◌≡◌, ◌==◌, ◌&&◌, ◌||◌, ◌+◌, ◌^◌, ◌-◌, ◌<◌, ◌≤◌, ℕ, suc, Bool, true, not, ◌++◌, List, [], ◌∷◌, length, min, refl, sym, ap, ◌∙◌}
+use Rattle.std.proofs.Common.{◌≡◌, ◌==◌, ◌+◌, ◌^◌, ◌-◌, ◌<◌, ◌≤◌, ℕ, suc, Bool, true, not, ◌++◌, List, [], ◌∷◌, length, min, refl, sym, ap, ◌∙◌}
 use Rattle.std.proofs.Common.{append_assoc, subst, arith, inl, inr}
-use Rattle.std.specs.Prelude.{false, is_some, Option, Some, None, if◌then◌else◌}
-use Rattle.std.proofs.Math.Bool.{and-true, and_assoc, true-and}
+use Rattle.std.specs.Prelude.{false, Option, Some, None, if◌then◌else◌}
 use Rattle.std.proofs.lemmas.{Bool.and_from, Bool.and_parts, Bool.cases_lt, Bool.le-ltb, List.append-nil, List.length-append}
 use Rattle.std.specs.List.{flat_map}
 use Rattle.irig_codes.specs.Format.{FormatView}
 use Rattle.irig_recording.specs.declared.pulse.Pulse.{Pulse}
 use Rattle.irig_track.specs.Looks.{counted}
-use Rattle.irig_stamps.specs.Stamped.{AreOut, Stamped, are_numbered, is_plain, unlines}
-use Rattle.irig_stamps.specs.{Stamps.IsOut, Stamps.header_word, Stamps.is_header, Stamps.is_numbered, Stamps.picos_in, declared.settings.Settings.Settings}
+use Rattle.irig_stamps.specs.Looks.{header_look, line_look, look_at, looks}
+use Rattle.irig_stamps.specs.Stamped.{AreOut, Stamped, is_plain, unlines}
+use Rattle.irig_stamps.specs.{Stamps.IsOut, Stamps.header_word, Stamps.is_header, Tallies.IsTally}
+use Rattle.irig_stamps.specs.declared.{settings.Settings.Settings, look.Look.Look, tally.Tally.Tally}
 
 pub plain-append : (xs ys : List ℕ) → is_plain xs ≡ true → is_plain ys ≡ true → is_plain (xs ++ ys) ≡ true
 plain-append [] ys h k = k
@@ -38,19 +39,19 @@ module _ (f : FormatView) (ps : List Pulse) (s : Settings) where
   each-append n [] (o ∷ os) line out h p k = absurd h
   each-append n (l ∷ ls) [] line out h p k = absurd h
 
-  numbers-append : (n : ℕ) (ls : List (List ℕ)) (line : List ℕ)
-      → are_numbered s n (ls ++ line ∷ []) ≡ (are_numbered s n ls && is_numbered s (n + length ls) line)
-  numbers-append n [] line =
-      and-true (is_numbered s n line) ∙ (ap (λ (m : ℕ). is_numbered s m line) (sym (none-later n)) ∙ sym (true-and (is_numbered s (n + 0) line)))
-  numbers-append n (l ∷ ls) line =
-      ap (λ (b : Bool). is_numbered s n l && b) (numbers-append (suc n) ls line)
-      ∙ (sym (and_assoc (is_numbered s n l) (are_numbered s (suc n) ls) (is_numbered s (suc n + length ls) line))
-      ∙ ap (λ (m : ℕ). (is_numbered s n l && are_numbered s (suc n) ls) && is_numbered s m line) (one-later n (length ls)))
+  looks-append : (n : ℕ) (ls os : List (List ℕ)) (line out : List ℕ) → AreOut f ps s n ls os
+      → looks s n (ls ++ line ∷ []) (os ++ out ∷ []) ≡ looks s n ls os ++ look_at s (n + length ls) line out ∷ []
+  looks-append n [] [] line out h = ap (λ (m : ℕ). look_at s m line out ∷ []) (sym (none-later n))
+  looks-append n (l ∷ ls) (o ∷ os) line out h =
+      ap (λ (xs : List Look). look_at s n l o ∷ xs) (looks-append (suc n) ls os line out h.1.1)
+      ∙ ap (λ (m : ℕ). look_at s n l o ∷ (looks s (suc n) ls os ++ look_at s m line out ∷ [])) (one-later n (length ls))
+  looks-append n [] (o ∷ os) line out h = absurd h
+  looks-append n (l ∷ ls) [] line out h = absurd h
 
   -- more bytes of a line
-  pub stamped-part : (bytes text rest part : List ℕ) (count : ℕ) (all : Bool) → Stamped f ps s bytes text rest count all → is_plain part ≡ true
-      → Stamped f ps s (bytes ++ part) text (rest ++ part) count all
-  stamped-part bytes text rest part count all h p = record {
+  pub stamped-part : (bytes text rest part : List ℕ) (count : ℕ) (tally : Tally) → Stamped f ps s bytes text rest count tally → is_plain part ≡ true
+      → Stamped f ps s (bytes ++ part) text (rest ++ part) count tally
+  stamped-part bytes text rest part count tally h p = record {
     lines = h.lines;
     outs = h.outs;
     cut = ap (λ t. t ++ part) h.cut ∙ append_assoc (unlines h.lines) rest part;
@@ -58,7 +59,7 @@ module _ (f : FormatView) (ps : List Pulse) (s : Settings) where
     each = h.each;
     whole = h.whole;
     counts = h.counts;
-    numbers = h.numbers;
+    tallied = h.tallied;
   }
 
   -- a count that stays at 2^64 - 1 serves for the header
@@ -85,10 +86,11 @@ module _ (f : FormatView) (ps : List Pulse) (s : Settings) where
   ]
 
   -- the end of a line
-  pub stamped-line : (bytes text rest out : List ℕ) (count : ℕ) (all numbered : Bool) → s.header < 2 ^ 64
-      → Stamped f ps s bytes text rest count all → IsOut f ps s (header_word s count) rest out → numbered ≡ is_numbered s count rest
-      → Stamped f ps s (bytes ++ 10 ∷ []) (text ++ out) [] (counted count 1) (all && numbered)
-  stamped-line bytes text rest out count all numbered small h k e =
+  pub stamped-line : (bytes text rest out : List ℕ) (count : ℕ) (tally after : Tally) (look : Look) → s.header < 2 ^ 64
+      → Stamped f ps s bytes text rest count tally → IsOut f ps s (header_word s count) rest out → look ≡ look_at s count rest out
+      → ((xs : List Look) → IsTally xs tally → IsTally (xs ++ look ∷ []) after)
+      → Stamped f ps s (bytes ++ 10 ∷ []) (text ++ out) [] (counted count 1) after
+  stamped-line bytes text rest out count tally after look small h k e add =
       let same : is_header s count ≡ is_header s (0 + length h.lines) =
       header-counted (length h.lines) count small h.counts ∙ ap (is_header s) (none-before (length h.lines)) in
       let word : header_word s count ≡ header_word s (0 + length h.lines) =
@@ -103,7 +105,8 @@ module _ (f : FormatView) (ps : List Pulse) (s : Settings) where
         each = each-append 0 h.lines h.outs rest out h.each h.begun (subst (λ (w : Option (List ℕ)). IsOut f ps s w rest out) word k);
         whole = ap (λ t. t ++ out) h.whole ∙ sym (flat-append (λ o. o) h.outs (out ∷ []) ∙ ap (λ t. flat_map (λ o. o) h.outs ++ t) (append-nil out));
         counts = omega (arith, more, h.counts);
-        numbers = ap (λ (b : Bool). b && numbered) h.numbers
-            ∙ (ap (λ (b : Bool). are_numbered s 0 h.lines && b) (e ∙ ap (λ (b : Bool). b || is_some (picos_in s rest)) same)
-            ∙ sym (numbers-append 0 h.lines rest));
+        tallied = subst (λ (xs : List Look). IsTally xs after) (sym (looks-append 0 h.lines h.outs rest out h.each))
+            (subst (λ (x : Look). IsTally (looks s 0 h.lines h.outs ++ x ∷ []) after)
+            (e ∙ ap (λ (b : Bool). if b then header_look else line_look s rest out) same)
+            (add (looks s 0 h.lines h.outs) h.tallied));
       }

@@ -1,12 +1,13 @@
 -- Bytes of lines that were taken.
-use Rattle.std.proofs.Common.{◌≡◌, ◌≢◌, ◌==◌, ◌≤◌, ◌<◌, ◌^◌, ◌&&◌, ◌++◌, ◌+◌, ◌∷◌, [], ℕ, suc, Bool, true, false, not, List, Result, Ok, Err, length, take}
+use Rattle.std.proofs.Common.{◌≡◌, ◌≢◌, ◌==◌, ◌≤◌, ◌<◌, ◌^◌, ◌++◌, ◌+◌, ◌∷◌, [], ℕ, suc, Bool, true, false, not, List, Result, Ok, Err, length, take}
 use Rattle.std.proofs.Common.{drop, get_or, refl, sym, ap, ◌∙◌, append_assoc, subst}
 use Rattle.std.proofs.Math.Seq.{drop-cons, take-add}
 use Rattle.std.proofs.lemmas.{Bool.and_from, Bool.eqb-true, List.append-nil, List.take-append-drop}
 use Rattle.irig_codes.specs.Format.{FormatView}
 use Rattle.irig_recording.specs.declared.pulse.Pulse.{Pulse}
 use Rattle.irig_track.specs.Looks.{counted}
-use Rattle.irig_stamps.specs.Stamps.{IsOut, header_word, is_numbered}
+use Rattle.irig_stamps.specs.{Looks.look_at, Stamps.IsOut, Stamps.header_word, Tallies.IsTally}
+use Rattle.irig_stamps.specs.declared.{look.Look.Look, tally.Tally.Tally}
 use Rattle.irig_stamps.specs.Steps.{PushesAs, Takes, TakesAs}
 use Rattle.irig_stamps.specs.Stamped.{Stamped, is_plain}
 use Rattle.irig_stamps.specs.{declared.fault.TakeFault.TakeFault, declared.progress.Progress.Progress, declared.settings.Settings.Settings}
@@ -30,17 +31,17 @@ take-more l i less = sym (take-add i 1 l ∙ ap (λ r. take i l ++ take 1 r) (dr
 
 module _ (f : FormatView) (ps : List Pulse) (s : Settings) where
   -- the same state by its parts
-  same-state : (bytes text rest rest' : List ℕ) (count count' : ℕ) (all all' : Bool) → rest' ≡ rest → count' ≡ count → all' ≡ all
-      → Stamped f ps s bytes text rest count all → Stamped f ps s bytes text rest' count' all'
-  same-state bytes text rest rest' count count' all all' r c a h =
-      subst (λ x. Stamped f ps s bytes text x count' all') (sym r) (subst (λ x. Stamped f ps s bytes text rest x all') (sym c)
+  same-state : (bytes text rest rest' : List ℕ) (count count' : ℕ) (tally tally' : Tally) → rest' ≡ rest → count' ≡ count → tally' ≡ tally
+      → Stamped f ps s bytes text rest count tally → Stamped f ps s bytes text rest' count' tally'
+  same-state bytes text rest rest' count count' tally tally' r c a h =
+      subst (λ x. Stamped f ps s bytes text x count' tally') (sym r) (subst (λ x. Stamped f ps s bytes text rest x tally') (sym c)
       (subst (λ x. Stamped f ps s bytes text rest count x) (sym a) h))
 
   pub pushed : (byte : ℕ) (text : List ℕ) (was is : Progress) (result : Result (Unit {0}) TakeFault) → byte ≢ 10 → PushesAs byte was is result
       → TakesAs f ps s (byte ∷ []) text text was is result
   pushed byte text was is (Ok done) plain h = λ bytes before k.
       same-state _ _ _ _ _ _ _ _ h.0 h.1.0 h.1.1
-      (stamped-part f ps s bytes (before ++ text) was.line.items (byte ∷ []) was.count was.all k (plain-byte byte plain))
+      (stamped-part f ps s bytes (before ++ text) was.line.items (byte ∷ []) was.count was.tally k (plain-byte byte plain))
   pushed byte text was is (Err take_fault.TooLong) plain h = record {
     front = [];
     byte = byte;
@@ -49,24 +50,26 @@ module _ (f : FormatView) (ps : List Pulse) (s : Settings) where
     plain = plain;
     long = subst (λ (l : List ℕ). 2 ^ 20 ≤ length l) (sym h.0) h.1.1.1;
     taken = λ bytes before k.
-        subst (λ b. Stamped f ps s b (before ++ text) is.line.items is.count is.all) (sym (append-nil bytes))
+        subst (λ b. Stamped f ps s b (before ++ text) is.line.items is.count is.tally) (sym (append-nil bytes))
         (same-state _ _ _ _ _ _ _ _ h.0 h.1.0 h.1.1.0 k);
   }
   pushed byte text was is (Err take_fault.OutOfMemory) plain h = tt
 
-  pub line-taken : (was : Progress) (old new out rest' : List ℕ) (numbered : Bool) (count' : ℕ) (all' : Bool) → s.header < 2 ^ 64
-      → IsOut f ps s (header_word s was.count) was.line.items out → new ≡ old ++ out → numbered ≡ is_numbered s was.count was.line.items
-      → rest' ≡ [] → count' ≡ counted was.count 1 → all' ≡ (was.all && numbered)
-      → (bytes before : List ℕ) → Stamped f ps s bytes (before ++ old) was.line.items was.count was.all
-      → Stamped f ps s (bytes ++ 10 ∷ []) (before ++ new) rest' count' all'
-  line-taken was old new out rest' numbered count' all' small k text e r c a = λ bytes before h.
-      subst (λ t. Stamped f ps s (bytes ++ 10 ∷ []) t rest' count' all') (append_assoc before old out ∙ ap (λ t. before ++ t) (sym text))
-      (same-state _ _ _ _ _ _ _ _ r c a (stamped-line f ps s bytes (before ++ old) was.line.items out was.count was.all numbered small h k e))
+  pub line-taken : (was : Progress) (old new out rest' : List ℕ) (look : Look) (count' : ℕ) (tally' : Tally) → s.header < 2 ^ 64
+      → IsOut f ps s (header_word s was.count) was.line.items out → new ≡ old ++ out → look ≡ look_at s was.count was.line.items out
+      → rest' ≡ [] → count' ≡ counted was.count 1
+      → ((xs : List Look) → IsTally xs was.tally → IsTally (xs ++ look ∷ []) tally')
+      → (bytes before : List ℕ) → Stamped f ps s bytes (before ++ old) was.line.items was.count was.tally
+      → Stamped f ps s (bytes ++ 10 ∷ []) (before ++ new) rest' count' tally'
+  line-taken was old new out rest' look count' tally' small k text e r c add = λ bytes before h.
+      subst (λ t. Stamped f ps s (bytes ++ 10 ∷ []) t rest' count' tally') (append_assoc before old out ∙ ap (λ t. before ++ t) (sym text))
+      (same-state _ _ _ _ _ _ _ _ r c refl
+      (stamped-line f ps s bytes (before ++ old) was.line.items out was.count was.tally tally' look small h k e add))
 
   pub takes-both : (front part old mid new : List ℕ) (was at is : Progress) → Takes f ps s front old mid was at → Takes f ps s part mid new at is
       → Takes f ps s (front ++ part) old new was is
   takes-both front part old mid new was at is first second = λ bytes before h.
-      subst (λ t. Stamped f ps s t (before ++ new) is.line.items is.count is.all) (append_assoc bytes front part)
+      subst (λ t. Stamped f ps s t (before ++ new) is.line.items is.count is.tally) (append_assoc bytes front part)
       (second (bytes ++ front) before (first bytes before h))
 
   -- a byte that was not taken after those that were

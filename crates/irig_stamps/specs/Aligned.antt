@@ -11,7 +11,7 @@ use Rattle.irig_stamps.specs.declared.settings.Settings.{Settings}
 use Rattle.irig_stamps.specs.{Dates.doubted, Runs.Ends, declared.fault.RunFault.RunFault}
 use Rattle.irig_stamps.specs.TrackSettings.{day_of, with_track}
 use Rattle.irig_stamps.specs.{Named.Finds, declared.outcome.Outcome.Outcome}
-use Rattle.irig_stamps.specs.declared.outcome.Standing.{Standing}
+use Rattle.irig_stamps.specs.{declared.outcome.Standing.Standing, declared.tally.Tally.Tally}
 use Rattle.irig_times.specs.Support.{believed}
 
 -- whether a frame of a track is believed, and how many have a time and are not
@@ -22,21 +22,21 @@ abbrev pub standing_of : FormatView → List Pulse → Settings → Standing
 standing_of f ps s =
     standing (is_some (day_of f ps s)) (doubted f (believed f s.alone ps) 0 (frames f ps))
 
--- the outcome of a run: whether each line has a number, and which frames are believed
-abbrev pub outcome : Bool → Standing → Outcome
-outcome numbered standing = record { numbered = numbered; standing = standing }
+-- the outcome of a run: what is counted of its lines, and which frames are believed
+abbrev pub outcome : Tally → Standing → Outcome
+outcome tally standing = record { tally = tally; standing = standing }
 
--- whether the column of each line has a number, or why the run was broken off
-abbrev pub numbers_of : Result Outcome RunFault → Result Bool RunFault
-numbers_of (Ok outcome) = Ok outcome.numbered
-numbers_of (Err fault) = Err fault
+-- what is counted of the lines, or why the run was broken off
+abbrev pub tally_of : Result Outcome RunFault → Result Tally RunFault
+tally_of (Ok outcome) = Ok outcome.tally
+tally_of (Err fault) = Err fault
 
 -- the run ended as it does with the pulses that have these edges, in a track of some microseconds
 pub record AlignsPulses (f : FormatView) (micros : ℕ) (edges : List ℕ) (s : Settings)
     (lines left from to : Option (List ℕ)) (result : Result Outcome RunFault) : Type 0 where
   pub pulses : List Pulse
   pub are : edges_of pulses ≡ edges
-  pub ends : Ends f pulses (with_track f micros pulses s) lines left from to (numbers_of result)
+  pub ends : Ends f pulses (with_track f micros pulses s) lines left from to (tally_of result)
   pub stands : IfOk result (λ outcome. outcome.standing ≡ standing_of f pulses s)
 
 -- the same; or memory ran out, and nothing was read or printed

@@ -4,6 +4,7 @@ pub mod Dates
 pub mod Exponents
 pub mod Front
 pub mod HeaderSteps
+pub mod Looks
 pub mod Named
 pub mod Numbers
 pub mod Points
@@ -15,5 +16,6 @@ pub mod Stamped
 pub mod Stamps
 pub mod Steps
 pub mod Tables
+pub mod Tallies
 pub mod Texts
 pub mod TrackSettings

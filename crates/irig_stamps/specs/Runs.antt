@@ -1,5 +1,5 @@
 -- A run over a text of lines: what it reads and what it prints. This project's own.
-use Rattle.std.specs.Prelude.{◌≡◌, ◌≢◌, ◌⊎◌, ◌≤◌, ◌==◌, ◌^◌, ℕ, Bool}
+use Rattle.std.specs.Prelude.{◌≡◌, ◌≢◌, ◌⊎◌, ◌≤◌, ◌==◌, ◌^◌, ℕ}
 use Rattle.std.specs.Prelude.{if◌then◌else◌, List, [], ◌∷◌, ◌++◌, length, Option, Result, Ok}
 use Rattle.std.specs.Prelude.{Err}
 use Rattle.std.specs.Io.KnownBytes.{Appends, Consumes, IsAtEnd}
@@ -9,7 +9,7 @@ use Rattle.irig_track.specs.Looks.{counted}
 use Rattle.irig_stamps.specs.declared.fault.RunFault.TheVariants.{ReadFailed, TooManyReads}
 use Rattle.irig_stamps.specs.declared.fault.RunFault.TheVariants.{PrintFailed, TooLong, OutOfMemory}
 use Rattle.irig_stamps.specs.{declared.fault.RunFault.RunFault, declared.settings.Settings.Settings}
-use Rattle.irig_stamps.specs.Stamped.{Stamped}
+use Rattle.irig_stamps.specs.{Stamped.Stamped, declared.tally.Tally.Tally}
 
 -- the newline that the last line of some bytes lacks
 abbrev pub ending_of : List ℕ → List ℕ
@@ -19,13 +19,13 @@ ending_of (b ∷ c ∷ bs) = ending_of (c ∷ bs)
 
 -- all bytes were read, and what comes out for their lines was printed
 pub record Ran (f : FormatView) (ps : List Pulse) (s : Settings)
-    (lines left from to : Option (List ℕ)) (all : Bool) : Type 0 where
+    (lines left from to : Option (List ℕ)) (tally : Tally) : Type 0 where
   pub bytes : List ℕ
   pub text : List ℕ
   pub count : ℕ
   pub read : Consumes lines left bytes
   pub end : IsAtEnd left
-  pub stamped : Stamped f ps s (bytes ++ ending_of bytes) text [] count all
+  pub stamped : Stamped f ps s (bytes ++ ending_of bytes) text [] count tally
   pub printed : Appends from to text
 
 -- why a run was broken off: what was read and not stamped, what was stamped and not printed, the
@@ -51,16 +51,16 @@ pub record Broke (f : FormatView) (ps : List Pulse) (s : Settings)
   pub front : List ℕ
   pub back : List ℕ
   pub count : ℕ
-  pub all : Bool
+  pub tally : Tally
   pub read : Consumes lines left (bytes ++ more)
   pub is_ending : (ending ≡ []) ⊎ ((ending ≡ ending_of bytes) × IsAtEnd left)
-  pub stamped : Stamped f ps s (bytes ++ ending) text rest count all
+  pub stamped : Stamped f ps s (bytes ++ ending) text rest count tally
   pub part : text ≡ front ++ back
   pub printed : Appends from to front
   pub cause : IsCause fault more back rest count
 
 -- how a run ends
 abbrev pub Ends : FormatView → List Pulse → Settings → Option (List ℕ) → Option (List ℕ)
-    → Option (List ℕ) → Option (List ℕ) → Result Bool RunFault → Type 0
-Ends f ps s lines left from to (Ok all) = Ran f ps s lines left from to all
+    → Option (List ℕ) → Option (List ℕ) → Result Tally RunFault → Type 0
+Ends f ps s lines left from to (Ok tally) = Ran f ps s lines left from to tally
 Ends f ps s lines left from to (Err fault) = Broke f ps s lines left from to fault

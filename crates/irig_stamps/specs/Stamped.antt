@@ -1,11 +1,12 @@
 -- What comes out for whole lines, and how many they are. This project's own.
-use Rattle.std.specs.Prelude.{◌≡◌, ◌==◌, ◌^◌, ◌-◌, ◌&&◌, ℕ, suc, Bool, true, not}
+use Rattle.std.specs.Prelude.{◌≡◌, ◌==◌, ◌^◌, ◌-◌, ℕ, suc, Bool, true, not}
 use Rattle.std.specs.Prelude.{List, [], ◌∷◌, ◌++◌, length, min}
 use Rattle.std.specs.List.{list_all, flat_map}
 use Rattle.irig_codes.specs.Format.{FormatView}
 use Rattle.irig_recording.specs.declared.pulse.Pulse.{Pulse}
-use Rattle.irig_stamps.specs.Stamps.{IsOut, header_word, is_numbered}
-use Rattle.irig_stamps.specs.{declared.settings.Settings.Settings}
+use Rattle.irig_stamps.specs.{Looks.looks, Stamps.IsOut, Stamps.header_word, Tallies.IsTally}
+use Rattle.irig_stamps.specs.declared.settings.Settings.{Settings}
+use Rattle.irig_stamps.specs.declared.tally.Tally.{Tally}
 
 -- the text has no newline in it
 abbrev pub is_plain : List ℕ → Bool
@@ -20,19 +21,14 @@ AreOut f ps s n (line ∷ lines) (out ∷ outs) =
 AreOut f ps s n [] (out ∷ outs) = ⊥
 AreOut f ps s n (line ∷ lines) [] = ⊥
 
--- whether the column of each line has a number, but for the header; n lines are before
-abbrev pub are_numbered : Settings → ℕ → List (List ℕ) → Bool
-are_numbered s n [] = true
-are_numbered s n (line ∷ lines) = is_numbered s n line && are_numbered s (suc n) lines
-
 -- lines with the newlines that end them
 abbrev pub unlines : List (List ℕ) → List ℕ
 unlines lines = flat_map (λ line. line ++ 10 ∷ []) lines
 
 -- these bytes are whole lines and a rest, and the text is what comes out for just those lines.
--- `count` is their number, up to 2^64 - 1, and `all` whether each of them has a number
+-- `count` is their number, up to 2^64 - 1, and `tally` what is counted of those after the header
 pub record Stamped (f : FormatView) (ps : List Pulse) (s : Settings) (bytes text rest : List ℕ)
-    (count : ℕ) (all : Bool) : Type 0 where
+    (count : ℕ) (tally : Tally) : Type 0 where
   pub lines : List (List ℕ)
   pub outs : List (List ℕ)
   pub cut : bytes ≡ unlines lines ++ rest
@@ -40,4 +36,4 @@ pub record Stamped (f : FormatView) (ps : List Pulse) (s : Settings) (bytes text
   pub each : AreOut f ps s 0 lines outs
   pub whole : text ≡ flat_map (λ out. out) outs
   pub counts : count ≡ min (length lines) (2 ^ 64 - 1)
-  pub numbers : all ≡ are_numbered s 0 lines
+  pub tallied : IsTally (looks s 0 lines outs) tally

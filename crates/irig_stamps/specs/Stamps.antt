@@ -1,6 +1,6 @@
 -- A line with its time before it. This project's own.
 use Rattle.std.specs.Prelude.{◌≡◌, ℕ, ◌-◌, ◌≤◌, ◌++◌, List, [], ◌∷◌, Option, Some, None, unwrap_or}
-use Rattle.std.specs.Prelude.{Bool, true, false, ◌⊎◌, ◌==◌, ◌||◌, ◌+◌, ◌/◌, ◌<◌, nat_lt, is_some}
+use Rattle.std.specs.Prelude.{Bool, true, false, ◌⊎◌, ◌==◌, ◌+◌, ◌/◌, ◌<◌, nat_lt}
 use Rattle.std.specs.Prelude.{if◌then◌else◌}
 use Rattle.irig_codes.specs.Format.{FormatView}
 use Rattle.irig_recording.specs.declared.pulse.Pulse.{Pulse}
@@ -72,7 +72,3 @@ header_word s n =
 abbrev pub IsOut : FormatView → List Pulse → Settings → Option (List ℕ) → List ℕ → List ℕ → Type 0
 IsOut f ps s (Some word) line out = out ≡ word ++ (unwrap_or s.comma 9 ∷ line ++ 10 ∷ [])
 IsOut f ps s None line out = IsStamped f ps s line out
-
--- whether the column of a line has a number, if it is none of the header
-abbrev pub is_numbered : Settings → ℕ → List ℕ → Bool
-is_numbered s n line = is_header s n || is_some (picos_in s line)

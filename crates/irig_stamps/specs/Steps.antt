@@ -8,7 +8,7 @@ use Rattle.irig_track.specs.Looks.{counted}
 use Rattle.irig_stamps.specs.declared.fault.RunFault.TheVariants.{PrintFailed, TooLong, OutOfMemory}
 use Rattle.irig_stamps.specs.{Front.AppendsFront, Runs.Broke, Runs.Ran, Stamped.Stamped}
 use Rattle.irig_stamps.specs.{declared.fault.RunFault.RunFault, declared.fault.TakeFault.TakeFault}
-use Rattle.irig_stamps.specs.declared.fault.PrintFault.{PrintFault}
+use Rattle.irig_stamps.specs.{declared.fault.PrintFault.PrintFault, declared.tally.Tally.Tally}
 use Rattle.irig_stamps.specs.{declared.progress.Progress.Progress, declared.settings.Settings.Settings}
 use Rattle.irig_stamps.specs.declared.fault.TakeFault.TheVariants as take
 
@@ -17,8 +17,8 @@ abbrev pub Takes : FormatView → List Pulse → Settings → List ℕ → List 
     → Progress → Type 0
 Takes f ps s part old new was is =
     (bytes : List ℕ) (done : List ℕ)
-    → Stamped f ps s bytes (done ++ old) was.line.items was.count was.all
-    → Stamped f ps s (bytes ++ part) (done ++ new) is.line.items is.count is.all
+    → Stamped f ps s bytes (done ++ old) was.line.items was.count was.tally
+    → Stamped f ps s (bytes ++ part) (done ++ new) is.line.items is.count is.tally
 
 -- the bytes were taken up to one that makes a line too long
 pub record TakesUpTo (f : FormatView) (ps : List Pulse) (s : Settings) (part old new : List ℕ)
@@ -41,26 +41,28 @@ TakesAs f ps s part old new was is (Err take.OutOfMemory) = Unit {0}
 -- a byte was added to the line so far; or nothing changed, because it makes the line too long
 abbrev pub PushesAs : ℕ → Progress → Progress → Result (Unit {0}) TakeFault → Type 0
 PushesAs byte was is (Ok done) =
-    (is.line.items ≡ was.line.items ++ byte ∷ []) × ((is.count ≡ was.count) × (is.all ≡ was.all))
+    (is.line.items ≡ was.line.items ++ byte ∷ [])
+    × ((is.count ≡ was.count) × (is.tally ≡ was.tally))
 PushesAs byte was is (Err take.TooLong) = (is.line.items ≡ was.line.items)
-    × ((is.count ≡ was.count) × ((is.all ≡ was.all) × (2 ^ 20 ≤ length was.line.items)))
+    × ((is.count ≡ was.count) × ((is.tally ≡ was.tally) × (2 ^ 20 ≤ length was.line.items)))
 PushesAs byte was is (Err take.OutOfMemory) = Unit {0}
 
 -- what was read so far was stamped up to the front of a line, and that was printed
 pub record Underway (f : FormatView) (ps : List Pulse) (s : Settings)
-    (lines left from to : Option (List ℕ)) (rest : List ℕ) (count : ℕ) (all : Bool) : Type 0 where
+    (lines left from to : Option (List ℕ)) (rest : List ℕ) (count : ℕ) (tally : Tally)
+    : Type 0 where
   pub bytes : List ℕ
   pub text : List ℕ
   pub read : Consumes lines left bytes
-  pub stamped : Stamped f ps s bytes text rest count all
+  pub stamped : Stamped f ps s bytes text rest count tally
   pub printed : Appends from to text
 
 -- after one more read: it was the last, or the run goes on
 abbrev pub GoesOn : FormatView → List Pulse → Settings → Option (List ℕ) → Option (List ℕ)
     → Option (List ℕ) → Option (List ℕ) → Progress → Result Bool RunFault → Type 0
-GoesOn f ps s lines left from to state (Ok true) = Ran f ps s lines left from to state.all
+GoesOn f ps s lines left from to state (Ok true) = Ran f ps s lines left from to state.tally
 GoesOn f ps s lines left from to state (Ok false) =
-    Underway f ps s lines left from to state.line.items state.count state.all
+    Underway f ps s lines left from to state.line.items state.count state.tally
 GoesOn f ps s lines left from to state (Err fault) = Broke f ps s lines left from to fault
 
 -- the text was printed, or after a fault only a front of it

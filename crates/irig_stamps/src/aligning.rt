@@ -10,7 +10,7 @@
 
 ghost use Rattle.std.specs.Prelude.{◌≡◌, ◌≤◌, ◌<◌, ◌^◌, ℕ, List, Option, IfOk, IfSome};
 ghost use Rattle.std.specs.Io.KnownBytes.{Consumes};
-ghost use Rattle.irig_stamps.specs.Aligned.{Aligns, AlignsNamed, AlignsNumbered, numbers_of};
+ghost use Rattle.irig_stamps.specs.Aligned.{Aligns, AlignsNamed, AlignsNumbered, tally_of};
 ghost use Rattle.irig_stamps.specs.Aligned.{standing_of};
 ghost use Rattle.irig_stamps.specs.{Runs.Ends, TrackSettings.with_track};
 
@@ -136,7 +136,7 @@ fn align_track<R: Read, W: Write>(
     ensures ends { (start : Option (List ℕ)) → Consumes start (R.remaining lines.old) before.now
         → Ends format pulses.old.track.pulses
         (with_track format pulses.old.track.micros pulses.old.track.pulses settings.now) start
-        (R.remaining lines.new) (W.contents out.old) (W.contents out.new) (numbers_of result) }
+        (R.remaining lines.new) (W.contents out.old) (W.contents out.new) (tally_of result) }
     ensures stands { IfOk result (λ outcome.
         outcome.standing ≡ standing_of format pulses.old.track.pulses settings.now) }
 {
@@ -160,8 +160,8 @@ fn align_track<R: Read, W: Write>(
         return Err(RunFault::OutOfMemory);
     };
     match run(alloc, before, lines, out, pulses, &known, format, &settings) {
-        Ok(numbered) => Ok(Outcome {
-            numbered,
+        Ok(tally) => Ok(Outcome {
+            tally,
             standing: Standing {
                 timed: day.is_some(),
                 doubted,

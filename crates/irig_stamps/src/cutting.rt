@@ -55,7 +55,7 @@ fn is_space(byte: u8) -> bool
 }
 
 /// Whether a byte is a decimal digit.
-fn is_digit(byte: u8) -> bool
+pub fn is_digit(byte: u8) -> bool
     ensures { result ≡ is_digit byte }
 {
     matches!(byte, b'0'..=b'9')

@@ -4,10 +4,11 @@
 //! pulses, `parts` which of them have a time, and `whys` why the others have none; `time_by` and
 //! `why_at` give the time of year of a moment, and why it has none.
 
-ghost use Rattle.std.specs.Prelude.{◌≡◌, ◌↔◌, ◌<◌, ◌≤◌, ◌^◌, ◌-◌, Some, min};
+ghost use Rattle.std.specs.Prelude.{◌≡◌, ◌↔◌, ◌<◌, ◌≤◌, ◌^◌, ◌-◌, Option, Some, min, option_map};
 ghost use Rattle.irig_times.specs.Counted.{timed_parts};
 ghost use Rattle.irig_times.specs.declared.time.Time.{Time};
 ghost use Rattle.irig_times.specs.{Support.believed, Untimed.IsKnown};
+ghost use Rattle.irig_stamps.specs.{Looks.moment_of};
 ghost use Rattle.irig_stamps.specs.Stamps.{IsTimeOf, IsWhyOf, added, taken};
 ghost use Rattle.irig_stamps.specs.{Numbers.capped, declared.picos.Picos.Picos};
 
@@ -24,6 +25,9 @@ const LATE: u128 = 4_611_686_018_427_387_904;
 /// A moment after the end of each track, in picoseconds after its start: 2^62, as `LATE`.
 const END: u64 = 4_611_686_018_427_387_904;
 
+/// A microsecond, in picoseconds.
+const PICOS: u128 = 1_000_000;
+
 /// A recorder's time less the offset, as two numbers of picoseconds without a sign: the first less
 /// the second. So it is how long after the start of the track the recorder's time is. The time goes
 /// to the first number, or if it is below zero (`negative`) to the second. The offset goes to the
@@ -39,6 +43,28 @@ fn span(settings: &Settings<'_>, picos: Picos) -> (u128, u128)
         (false, true) => (0, picos.size.saturating_add(settings.offset)),
         (true, false) => (picos.size.saturating_add(settings.offset), 0),
         (true, true) => (settings.offset, picos.size),
+    }
+}
+
+/// When a recorder's time is, in picoseconds after the start of the track: that of the number in a
+/// column, if there is one. `None` if that is not in the track: before its start, or after its end.
+pub fn moment_of(settings: &Settings<'_>, number: Option<Picos>) -> Option<u128>
+    requires { settings.now.offset ≤ 2 ^ 119 }
+    ensures { (v : Option Picos) → number ≡ option_map capped v
+        → result ≡ moment_of settings.now v }
+{
+    let Some(picos) = number else {
+        return None;
+    };
+    let (added, taken) = span(settings, picos);
+    if added < taken {
+        return None;
+    }
+    let since = added - taken;
+    if since < PICOS * settings.micros as u128 {
+        Some(since)
+    } else {
+        None
     }
 }
 

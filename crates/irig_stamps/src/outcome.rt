@@ -1,5 +1,7 @@
 //! How lines were aligned.
 
+use crate::tally::Tally;
+
 /// Which frames of a track are believed: those whose time another frame near them supports, or all
 /// that have a time, if the settings say so (`alone`).
 #[derive(Clone, Copy)]
@@ -13,8 +15,8 @@ pub struct Standing {
 /// How lines were aligned.
 #[derive(Clone, Copy)]
 pub struct Outcome {
-    /// Whether the column of each line has a number, but for the header.
-    pub numbered: bool,
+    /// What is counted of the lines, but for the header.
+    pub tally: Tally,
     /// Which frames of the track are believed.
     pub standing: Standing,
 }

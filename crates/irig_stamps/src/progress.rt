@@ -1,7 +1,9 @@
 //! How far lines were read, byte by byte.
 
-ghost use Rattle.std.specs.Prelude.{◌≡◌, [], true};
+ghost use Rattle.std.specs.Prelude.{◌≡◌, []};
+ghost use Rattle.irig_stamps.specs.Tallies.{no_tally};
 
+use crate::tally::Tally;
 use std::alloc::Global;
 
 /// How far lines were read.
@@ -11,22 +13,21 @@ pub struct Progress {
     pub line: Vec<u8>,
     /// How many lines have ended; 2^64 - 1 means that many or more.
     pub count: u64,
-    /// Whether each line that has ended has a number in its column; lines of the header do not
-    /// count.
-    pub all: bool,
+    /// What is counted of those that are none of the header.
+    pub tally: Tally,
 }
 
 impl Progress {
-    /// Nothing is read yet: before the first line. No line has ended, so `all` is true.
+    /// Nothing is read yet: before the first line.
     pub fn new(alloc: Global) -> Progress
         ensures line { result.line.items ≡ [] }
         ensures count { result.count ≡ 0 }
-        ensures all { result.all ≡ true }
+        ensures tally { result.tally ≡ no_tally }
     {
         Progress {
             line: Vec::new(alloc),
             count: 0,
-            all: true,
+            tally: Tally::new(),
         }
     }
 }

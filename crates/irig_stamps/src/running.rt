@@ -1,7 +1,7 @@
 //! The run over the lines: it reads them in parts, and prints each line with its stamp before it.
 //! The stamp is the time of a track at the line's recorder's time, which is the number in one of
 //! its columns, or a word if it has none. `state` is how far the lines were read: the front of the
-//! line that has not ended, how many have ended, and whether each of these has such a number.
+//! line that has not ended, how many have ended, and what is counted of them (`tally`).
 //! `text` is what comes out for the lines that have ended and is not printed yet. `pulses` is the
 //! track's pulses, and `known` which of them have a time. A step (`run_one_read`, `put_part`,
 //! `end_last_line`) returns whether the lines were read to their end. A `RunFault` says why the run
@@ -21,14 +21,15 @@ use crate::progress::Progress;
 use crate::reading::{READ_LIMIT, READS_LIMIT, read_part};
 use crate::settings::Settings;
 use crate::taking::{end_line, take_part};
+use crate::tally::Tally;
 use irig_codes::Format;
 use irig_track::Lens;
 use std::alloc::Global;
 use std::io::{Read, Write};
 
 /// Takes `before`, the bytes of the lines that were read already, reads the rest to its end, and
-/// prints each line with its stamp before it. Returns whether each line after the header has a
-/// number in its column; or why the run is broken off. What was printed until then stays.
+/// prints each line with its stamp before it. Returns what is counted of the lines after the
+/// header; or why the run is broken off. What was printed until then stays.
 pub fn run<R: Read, W: Write>(
     alloc: Global,
     before: &[u8],
@@ -38,7 +39,7 @@ pub fn run<R: Read, W: Write>(
     known: &Known,
     format: Format,
     settings: &Settings<'_>,
-) -> Result<bool, RunFault>
+) -> Result<Tally, RunFault>
     requires known { IsKnownOf format settings.now pulses.old.track.pulses known.now }
     requires century { settings.now.century ≤ 99 }
     requires offset { settings.now.offset ≤ 2 ^ 119 }
@@ -61,9 +62,9 @@ pub fn run<R: Read, W: Write>(
     }
 }
 
-/// Reads the rest of the lines and prints what comes out for it. Returns whether each line after
-/// the header has a number in its column, also those before the rest (`state.all`). `TooManyReads`
-/// if the lines have not ended after 2^32 reads; other errors are those of `run_one_read`.
+/// Reads the rest of the lines and prints what comes out for it. Returns what is counted of the
+/// lines after the header, also of those before the rest (`state.tally`). `TooManyReads` if the
+/// lines have not ended after 2^32 reads; other errors are those of `run_one_read`.
 fn run_rest<R: Read, W: Write>(
     lines: &mut R,
     out: &mut W,
@@ -73,7 +74,7 @@ fn run_rest<R: Read, W: Write>(
     known: &Known,
     format: Format,
     settings: &Settings<'_>,
-) -> Result<bool, RunFault>
+) -> Result<Tally, RunFault>
     requires known { IsKnownOf format settings.now pulses.old.track.pulses known.now }
     requires century { settings.now.century ≤ 99 }
     requires offset { settings.now.offset ≤ 2 ^ 119 }
@@ -82,7 +83,7 @@ fn run_rest<R: Read, W: Write>(
     requires empty { text.old.items ≡ [] }
     ensures { (start : Option (List ℕ)) (from : Option (List ℕ))
         → Underway format pulses.old.track.pulses settings.now start (R.remaining lines.old) from
-        (W.contents out.old) state.old.line.items state.old.count state.old.all
+        (W.contents out.old) state.old.line.items state.old.count state.old.tally
         → Ends format pulses.old.track.pulses settings.now start (R.remaining lines.new) from
         (W.contents out.new) result }
 {
@@ -99,7 +100,7 @@ fn run_rest<R: Read, W: Write>(
             format,
             settings,
         ) {
-            Ok(true) => return Ok(state.all),
+            Ok(true) => return Ok(state.tally),
             Ok(false) => {}
             Err(fault) => return Err(fault),
         }
@@ -129,7 +130,7 @@ fn run_one_read<R: Read, W: Write>(
     requires empty { text.old.items ≡ [] }
     ensures step { (start : Option (List ℕ)) (from : Option (List ℕ))
         → Underway format pulses.old.track.pulses settings.now start (R.remaining lines.old) from
-        (W.contents out.old) state.old.line.items state.old.count state.old.all
+        (W.contents out.old) state.old.line.items state.old.count state.old.tally
         → GoesOn format pulses.old.track.pulses settings.now start (R.remaining lines.new) from
         (W.contents out.new) state.new result }
     ensures empty { OnOk result (text.new.items ≡ []) }
@@ -174,7 +175,7 @@ fn put_part<W: Write>(
     requires empty { text.old.items ≡ [] }
     ensures step { (start : Option (List ℕ)) (was : Option (List ℕ)) (is : Option (List ℕ))
         (from : Option (List ℕ)) → Underway format pulses.old.track.pulses settings.now start was
-        from (W.contents out.old) state.old.line.items state.old.count state.old.all
+        from (W.contents out.old) state.old.line.items state.old.count state.old.tally
         → Consumes was is part.now → GoesOn format pulses.old.track.pulses settings.now start is
         from (W.contents out.new) state.new result }
     ensures empty { OnOk result (text.new.items ≡ []) }
@@ -207,7 +208,7 @@ fn end_last_line<W: Write>(
     requires empty { text.old.items ≡ [] }
     ensures step { (start : Option (List ℕ)) (left : Option (List ℕ)) (from : Option (List ℕ))
         → IsAtEnd left → Underway format pulses.old.track.pulses settings.now start left from
-        (W.contents out.old) state.old.line.items state.old.count state.old.all
+        (W.contents out.old) state.old.line.items state.old.count state.old.tally
         → GoesOn format pulses.old.track.pulses settings.now start left from
         (W.contents out.new) state.new result }
     ensures empty { OnOk result (text.new.items ≡ []) }

@@ -7,12 +7,16 @@
 //! `AllocError` says that memory ran out; the text can have a part of what was to be added then.
 
 ghost use Rattle.std.specs.Prelude.{◌≡◌, ◌<◌, ◌≤◌, ◌^◌, ◌++◌, ◌∷◌, [], ℕ, List, Some};
-ghost use Rattle.std.specs.Prelude.{IfOk, IfSome, OnOk, is_some, unwrap_or};
-ghost use Rattle.irig_stamps.specs.Stamps.{IsOut, IsStamped, header_word, is_numbered, picos_in};
+ghost use Rattle.std.specs.Prelude.{IfOk, IfSome, OnOk, unwrap_or};
+ghost use Rattle.irig_stamps.specs.Looks.{begins, line_look, look_at};
+ghost use Rattle.irig_stamps.specs.Stamps.{IsOut, IsStamped, header_word};
 ghost use Rattle.irig_stamps.specs.Reasons.{IsKnownOf};
 
 use crate::columns::column;
+use crate::cutting::is_digit;
 use crate::knowledge::Known;
+use crate::look::Look;
+use crate::moment::moment_of;
 use crate::numbers::number;
 use crate::settings::Settings;
 use crate::stamp::{put_stamp, stamp_of};
@@ -21,8 +25,7 @@ use irig_track::Lens;
 use std::alloc::AllocError;
 
 /// Adds what comes out for a line: if it is in the header the word of `header_word` and the line,
-/// else the stamp and the line. Returns whether the line's column has a number; `true` in the
-/// header, where none is needed.
+/// else the stamp and the line. Returns what is seen of the line.
 pub fn put_line_out(
     text: &mut Vec<u8>,
     pulses: &mut Lens<'_>,
@@ -31,22 +34,21 @@ pub fn put_line_out(
     settings: &Settings<'_>,
     count: u64,
     line: &[u8],
-) -> Result<bool, AllocError>
+) -> Result<Look, AllocError>
     requires known { IsKnownOf format settings.now pulses.old.track.pulses known.now }
     requires century { settings.now.century ≤ 99 }
     requires offset { settings.now.offset ≤ 2 ^ 119 }
     requires year { IfSome settings.now.year (λ y. y ≤ 9998) }
-    ensures number { IfOk result (λ numbered.
-        numbered ≡ is_numbered settings.now count line.now) }
-    ensures out { OnOk result ((out : List ℕ)
+    ensures out { IfOk result (λ look. (out : List ℕ)
         × IsOut format pulses.old.track.pulses settings.now (header_word settings.now count)
-        line.now out × (text.new.items ≡ text.old.items ++ out)) }
+        line.now out × (text.new.items ≡ text.old.items ++ out)
+        × (look ≡ look_at settings.now count line.now out)) }
     ensures pulses { pulses.new.track ≡ pulses.old.track }
 {
     if count < settings.header {
         text.extend_from_slice(header_word(settings, count))?;
         put_separated(text, settings.comma, line)?;
-        return Ok(true);
+        return Ok(Look::of_header());
     }
     put_stamped(text, pulses, known, format, settings, line)
 }
@@ -66,8 +68,8 @@ fn header_word<'a>(settings: &Settings<'a>, count: u64) -> &'a [u8]
     }
 }
 
-/// Adds a line that is not in the header, with its stamp before it. Returns whether its column has
-/// a number; if it has none, the stamp is a hyphen.
+/// Adds a line that is not in the header, with its stamp before it. Returns what is seen of it.
+/// If its column has no number, the stamp is a hyphen.
 fn put_stamped(
     text: &mut Vec<u8>,
     pulses: &mut Lens<'_>,
@@ -75,24 +77,40 @@ fn put_stamped(
     format: Format,
     settings: &Settings<'_>,
     line: &[u8],
-) -> Result<bool, AllocError>
+) -> Result<Look, AllocError>
     requires known { IsKnownOf format settings.now pulses.old.track.pulses known.now }
     requires century { settings.now.century ≤ 99 }
     requires offset { settings.now.offset ≤ 2 ^ 119 }
     requires year { IfSome settings.now.year (λ y. y ≤ 9998) }
-    ensures number { IfOk result (λ numbered.
-        numbered ≡ is_some (picos_in settings.now line.now)) }
-    ensures stamped { OnOk result ((out : List ℕ)
+    ensures stamped { IfOk result (λ look. (out : List ℕ)
         × IsStamped format pulses.old.track.pulses settings.now line.now out
-        × (text.new.items ≡ text.old.items ++ out)) }
+        × (text.new.items ≡ text.old.items ++ out)
+        × (look ≡ line_look settings.now line.now out)) }
     ensures pulses { pulses.new.track ≡ pulses.old.track }
 {
     let column = column(settings.comma, settings.column, line);
     let number = number(settings.places, column);
     let stamp = stamp_of(pulses, known, format, settings, number);
+    let start = text.len();
     put_stamp(text, settings, stamp)?;
     put_separated(text, settings.comma, line)?;
-    Ok(number.is_some())
+    Ok(Look {
+        header: false,
+        numbered: number.is_some(),
+        timed: begins(&text[start..]),
+        moment: moment_of(settings, number),
+    })
+}
+
+/// Whether a text begins with a digit: what comes out for a line does so if the line has a time,
+/// since each time begins with one, and no other word before a line does.
+fn begins(text: &[u8]) -> bool
+    ensures { result ≡ begins text.now }
+{
+    match text {
+        [byte, ..] => is_digit(*byte),
+        [] => false,
+    }
 }
 
 /// Adds what comes after a stamp or word: a separator, the line and a newline. The separator is the

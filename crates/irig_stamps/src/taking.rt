@@ -1,6 +1,6 @@
 //! Bytes of lines are taken, as they come. `state` is how far the lines were read: the front of the
-//! line that has not ended (`line`), how many have ended (`count`), and whether each of these has a
-//! number in its column (`all`). `text` is what comes out for those that have ended: each with its
+//! line that has not ended (`line`), how many have ended (`count`), and what is counted of those
+//! after the header (`tally`). `text` is what comes out for those that have ended: each with its
 //! stamp before it, which is the time of year at the recorder's time that the number is, or a word.
 //! `pulses` is the track's pulses, and `known` which of them have a time. The bounds of `settings`
 //! keep each year in four digits, and each sum in its type.
@@ -67,8 +67,7 @@ fn push_byte(state: &mut Progress, byte: u8) -> Result<(), TakeFault>
 }
 
 /// Ends the line so far: adds what comes out for it to the text, counts it, and makes it empty. If
-/// its column has no number, `all` is false from now on; a line of the header needs none. If memory
-/// runs out, the line stays, and the text can have a part of what comes out.
+/// memory runs out, the line stays, and the text can have a part of what comes out.
 pub fn end_line(
     state: &mut Progress,
     text: &mut Vec<u8>,
@@ -88,8 +87,8 @@ pub fn end_line(
     ensures pulses { pulses.new.track ≡ pulses.old.track }
 {
     let line = state.line.as_slice();
-    let numbered = put_line_out(text, pulses, known, format, settings, state.count, line)?;
-    state.all &= numbered;
+    let look = put_line_out(text, pulses, known, format, settings, state.count, line)?;
+    state.tally.add(look);
     state.count = state.count.saturating_add(1);
     state.line.clear();
     Ok(())

@@ -62,6 +62,10 @@ abbrev pub has_line_option : RawValues → Bool
 has_line_option a = is_some a.unit || (is_some a.offset || (is_some a.column
     || (is_some a.header || (is_some a.name || wants_why a))))
 
+-- whether what was done with the lines is not said
+abbrev pub wants_quiet : RawValues → Bool
+wants_quiet a = bytes_eq (text_or a.quiet (codes "false")) (codes "true")
+
 -- the values ask for this
 pub record IsChosen (a : RawValues) (c : Chosen) : Type 0 where
   pub track : c.track ≡ a.track
@@ -71,4 +75,5 @@ pub record IsChosen (a : RawValues) (c : Chosen) : Type 0 where
   pub settings : HasSettings a c.settings
   pub year : lacks_year c.format c.settings ≡ false
   pub table : c.table ≡ wants_table a
+  pub quiet : c.quiet ≡ wants_quiet a
   pub alone : (wants_table a && has_line_option a) ≡ false

@@ -1,46 +1,39 @@
 -- What the program does for the words of its command line: from a dump and lines to the lines with
 -- their times, or from a dump to its table. This project's own.
-use Rattle.std.specs.Prelude.{◌≡◌, ◌<◌, ℕ, Bool, true, false, List, Option, Ok, Err}
+use Rattle.std.specs.Prelude.{◌≡◌, ◌<◌, ℕ, Bool, true, false, List, Option, None, Ok, Err}
 use Rattle.clap.specs.Words.{Text}
 use Rattle.irig_recording.specs.Recording.{RecordingView}
-use Rattle.irig_stamps.specs.{Aligned.Aligns, Aligned.outcome, Aligned.standing, Tables.ListsRecording}
-use Rattle.irig_time.specs.declared.ending.Ending.TheVariants.{Usage, Unread, Aligned}
+use Rattle.irig_stamps.specs.{Aligned.Aligns, Aligned.standing, Tables.ListsRecording}
+use Rattle.irig_stamps.specs.declared.outcome.Outcome.{Outcome}
+use Rattle.irig_time.specs.declared.ending.Ending.TheVariants.{Usage, Unread}
 use Rattle.irig_time.specs.declared.ending.Ending.TheVariants.{Listed, Timeless, Doubted, Broken}
 use Rattle.irig_files.specs.Tracks.{HasFaultBy, SaysBy, Unreadable, name_in}
 use Rattle.irig_vcd.specs.Extent.{long}
-use Rattle.irig_time.specs.{Settings.Reads, declared.chosen.Chosen.Chosen, declared.ending.Ending.Ending}
+use Rattle.irig_time.specs.{Done.EndsAs, Settings.Reads, declared.chosen.Chosen.Chosen, declared.ending.Ending.Ending}
 
 -- what the files hold, by their paths
 abbrev pub Held : Type 0
 Held = List ℕ → Option (List ℕ)
 
--- the lines were aligned with the pulses that have these edges, in a track of some microseconds. A
--- frame is believed, or none has a time, or some are not believed; or the run was broken off
+-- the lines were aligned with the pulses that have these edges, in a track of some microseconds,
+-- and the ending is that of the outcome; or the run was broken off
 abbrev pub AlignsAs : Chosen → ℕ → List ℕ → Option (List ℕ) → Option (List ℕ) → Option (List ℕ)
     → Option (List ℕ) → Ending → Type 0
-AlignsAs chosen micros edges lines left from to (Aligned all) =
-    Aligns chosen.format micros edges chosen.settings lines left from to
-    (Ok (outcome all (standing true 0)))
-AlignsAs chosen micros edges lines left from to (Timeless path) =
-    (path ≡ chosen.track) × (all : Bool)
-    × Aligns chosen.format micros edges chosen.settings lines left from to
-    (Ok (outcome all (standing false 0)))
-AlignsAs chosen micros edges lines left from to (Doubted path count) =
-    (path ≡ chosen.track) × (0 < count) × (all : Bool) × (timed : Bool)
-    × Aligns chosen.format micros edges chosen.settings lines left from to
-    (Ok (outcome all (standing timed count)))
 AlignsAs chosen micros edges lines left from to (Broken fault) =
     Aligns chosen.format micros edges chosen.settings lines left from to (Err fault)
-AlignsAs chosen micros edges lines left from to _ = ⊥
+AlignsAs chosen micros edges lines left from to ending =
+    (outcome : Outcome)
+    × Aligns chosen.format micros edges chosen.settings lines left from to (Ok outcome)
+    × EndsAs chosen micros outcome ending
 
 -- the same with the table of the pulses that have these edges
 abbrev pub ListsAs : Chosen → List ℕ → Option (List ℕ) → Option (List ℕ) → Ending → Type 0
 ListsAs chosen edges from to Listed =
     ListsRecording chosen.format edges chosen.settings from to (Ok (standing true 0))
-ListsAs chosen edges from to (Timeless path) =
+ListsAs chosen edges from to (Timeless path None) =
     (path ≡ chosen.track)
     × ListsRecording chosen.format edges chosen.settings from to (Ok (standing false 0))
-ListsAs chosen edges from to (Doubted path count) =
+ListsAs chosen edges from to (Doubted path count None) =
     (path ≡ chosen.track) × (0 < count) × (timed : Bool)
     × ListsRecording chosen.format edges chosen.settings from to (Ok (standing timed count))
 ListsAs chosen edges from to (Broken fault) =

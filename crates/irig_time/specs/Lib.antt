@@ -6,6 +6,7 @@ pub mod Samples
 pub mod Chosen
 pub mod Faults
 pub mod Settings
+pub mod Done
 pub mod Ending
 pub mod Help
 pub mod Statuses

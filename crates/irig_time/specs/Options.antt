@@ -33,9 +33,13 @@ flags_command =
     with_rule (with_rule (with_rule output_command (flag (codes "alone"))) (flag (codes "why")))
     (flag (codes "table"))
 
+-- and whether what was done is said at the end
+abbrev pub quiet_command : App
+quiet_command = with_rule flags_command (flag (codes "quiet"))
+
 -- the command
 abbrev pub the_command : App
-the_command = with_rule flags_command (needed (codes "TRACK"))
+the_command = with_rule quiet_command (needed (codes "TRACK"))
 
 abbrev pub IsPartCommand : App → Type 0
 IsPartCommand app = app ≡ part_command
@@ -51,6 +55,9 @@ IsOutputCommand app = app ≡ output_command
 
 abbrev pub IsFlagsCommand : App → Type 0
 IsFlagsCommand app = app ≡ flags_command
+
+abbrev pub IsQuietCommand : App → Type 0
+IsQuietCommand app = app ≡ quiet_command
 
 -- it is the command line of the program
 abbrev pub IsCommand : App → Type 0

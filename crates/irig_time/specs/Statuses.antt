@@ -1,5 +1,5 @@
 -- The statuses of the program as a process. This project's own.
-use Rattle.std.specs.Prelude.{ℕ, List, true, false, Option}
+use Rattle.std.specs.Prelude.{ℕ, List, Option}
 use Rattle.clap.specs.Words.{Text}
 use Rattle.irig_files.specs.Tracks.{Unreadable}
 use Rattle.irig_words.specs.Telling.{EndsWith, Explains}
@@ -8,7 +8,7 @@ use Rattle.irig_time.specs.declared.ending.Ending.TheVariants.{Listed, Timeless,
 use Rattle.irig_stamps.specs.declared.fault.RunFault.{RunFault}
 use Rattle.irig_stamps.specs.declared.fault.RunFault.TheVariants.{PrintFailed}
 use Rattle.irig_stamps.specs.declared.fault.PrintFault.TheVariants.{Closed}
-use Rattle.irig_time.specs.{Ending.EndsBy, Ending.Held, Help.help_text, declared.ending.Ending.Ending}
+use Rattle.irig_time.specs.{Done.lines_status, Ending.EndsBy, Ending.Held, Help.help_text, declared.ending.Ending.Ending}
 
 -- the status of a run that was broken off: 141 if nobody reads the output any more
 abbrev pub broken_status : RunFault → ℕ
@@ -20,11 +20,10 @@ broken_status _ = 4
 -- frames are not believed, 2 for another command line, 3 if the track was not read, that of
 -- `broken_status` if the run was broken off; help ends with 0, or with 4 if it was not printed
 abbrev pub Reports : Ending → Option (List ℕ) → Option (List ℕ) → ℕ → Type 0
-Reports (Aligned true) old new status = EndsWith 0 old new status
-Reports (Aligned false) old new status = EndsWith 1 old new status
+Reports (Aligned it) old new status = EndsWith (lines_status it.tally) old new status
 Reports Listed old new status = EndsWith 0 old new status
-Reports (Timeless path) old new status = EndsWith 1 old new status
-Reports (Doubted path count) old new status = EndsWith 1 old new status
+Reports (Timeless path it) old new status = EndsWith 1 old new status
+Reports (Doubted path count it) old new status = EndsWith 1 old new status
 Reports (Usage fault) old new status = Explains help_text 4 fault old new status
 Reports (Unread path fault) old new status = EndsWith 3 old new status
 Reports (Broken fault) old new status = EndsWith (broken_status fault) old new status

@@ -22,6 +22,8 @@ pub struct Chosen<'a> {
     pub settings: Settings<'a>,
     /// Whether the table of the frames is asked for, and no lines are read.
     pub table: bool,
+    /// Whether what was done with the lines is not said.
+    pub quiet: bool,
 }
 
 /// An option with a value that it cannot have.

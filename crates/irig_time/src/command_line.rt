@@ -4,7 +4,7 @@
 //! without, and `needed_arg` a word that has to be there, each by its name and its text in the
 //! help. What is after the last colon of that text is the value without the option. The options are
 //! added in this order: `part_command`, `format_command`, `column_command`, `output_command`,
-//! `flags_command`, `command`.
+//! `flags_command`, `quiet_command`, `command`.
 //!
 //! In a contract, `IsPartCommand` and the like say that a command has just the arguments that the
 //! function of that name gives it; `MayRefuse` says that `clap` may give this error for the words,
@@ -16,7 +16,7 @@ ghost use Rattle.clap.specs.Words.{HasMatchesOf, app_of, found_of};
 ghost use Rattle.irig_time.specs.Chosen.{IsSound};
 ghost use Rattle.irig_time.specs.Options.{IsColumnCommand, IsCommand, IsFlagsCommand};
 ghost use Rattle.irig_time.specs.Options.{IsFormatCommand, IsOutputCommand, IsPartCommand};
-ghost use Rattle.irig_time.specs.Options.{the_command};
+ghost use Rattle.irig_time.specs.Options.{IsQuietCommand, the_command};
 ghost use Rattle.irig_time.specs.Settings.{AreValues, Reads};
 ghost use Rattle.irig_words.specs.Errors.{MayRefuse, WantsMemory};
 ghost use Rattle.irig_words.specs.Usage.{Values};
@@ -87,6 +87,7 @@ fn values_of<'a>(matches: &ArgMatches<'a>) -> Result<RawValues<'a>, Error>
         alone: matches.get_str("alone"),
         why: matches.get_str("why"),
         table: matches.get_str("table"),
+        quiet: matches.get_str("quiet"),
     })
 }
 
@@ -99,14 +100,25 @@ fn parse_words<'a>(alloc: Global, words: &'a [String]) -> Result<ArgMatches<'a>,
     matches_of(command(alloc)?, words)
 }
 
-/// The command line of the program: the options of `flags_command`, and the path of the track.
+/// The command line of the program: the options of `quiet_command`, and the path of the track.
 pub fn command<'a>(alloc: Global) -> Result<Command<'a>, AllocError>
     ensures { IfOk result (λ c. IsCommand (app_of c)) }
+{
+    let Ok(command) = quiet_command(alloc) else {
+        return Err(AllocError);
+    };
+    command.arg(needed_arg(alloc, "TRACK", "the dump; lines come on standard input"))
+}
+
+/// The command with the options of `flags_command`, and that which leaves the closing line out
+/// (`--quiet`).
+fn quiet_command<'a>(alloc: Global) -> Result<Command<'a>, AllocError>
+    ensures { IfOk result (λ c. IsQuietCommand (app_of c)) }
 {
     let Ok(command) = flags_command(alloc) else {
         return Err(AllocError);
     };
-    command.arg(needed_arg(alloc, "TRACK", "the dump; lines come on standard input"))
+    command.arg(flag_arg(alloc, "quiet", "no line at the end says what was done"))
 }
 
 /// The command with the options of `output_command`, and those without a value: which frames are

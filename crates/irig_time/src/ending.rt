@@ -1,6 +1,7 @@
 //! How the program ends.
 
 use crate::chosen::OptionFault;
+use crate::done::Done;
 use irig_files::TrackFault;
 use irig_stamps::RunFault;
 use irig_words::UsageFault;
@@ -12,15 +13,16 @@ pub enum Ending<'a> {
     Usage(UsageFault<OptionFault>),
     /// The track at this path was not read.
     Unread(&'a str, TrackFault),
-    /// All lines were printed. True if the column of each has a number, but for the header.
-    Aligned(bool),
+    /// All lines were printed.
+    Aligned(Done),
     /// The table was printed.
     Listed,
-    /// All lines were printed, or the table, but no frame of the track at this path is fine.
-    Timeless(&'a str),
-    /// All lines were printed, or the table, but this many frames of the track at this path have a
-    /// time and are not believed.
-    Doubted(&'a str, usize),
+    /// All lines were printed, or the table (`None`), but no frame of the track at this path is
+    /// fine.
+    Timeless(&'a str, Option<Done>),
+    /// All lines were printed, or the table (`None`), but this many frames of the track at this
+    /// path have a time and are not believed.
+    Doubted(&'a str, usize, Option<Done>),
     /// The run was broken off.
     Broken(RunFault),
 }

@@ -11,15 +11,17 @@
 //! settings are within their limits.
 
 ghost use Rattle.std.specs.Prelude.{map, string_bytes};
+ghost use Rattle.irig_time.specs.{Done.EndsAs};
 ghost use Rattle.irig_time.specs.Ending.{AlignsAs, EndsBy, ListsAs, Obeys, RunsAs};
 ghost use Rattle.irig_time.specs.Chosen.{IsSound};
 
 use crate::chosen::Chosen;
 use crate::command_line::chosen;
+use crate::done::Done;
 use crate::ending::Ending;
 use irig_files::{Disk, read_long_track};
 use irig_recording::LongRecording;
-use irig_stamps::{align, list};
+use irig_stamps::{Outcome, align, list};
 use std::alloc::Global;
 use std::io::{Read, Write};
 
@@ -97,17 +99,19 @@ fn list_track<'a, W: Write>(
     ensures { ListsAs chosen.now recording.edges (W.contents out.old) (W.contents out.new) result }
 {
     match list(alloc, recording, out, chosen.format, &chosen.settings) {
-        Ok(standing) if standing.doubted > 0 => Ending::Doubted(chosen.track, standing.doubted),
+        Ok(standing) if standing.doubted > 0 => {
+            Ending::Doubted(chosen.track, standing.doubted, None)
+        }
         Ok(standing) if standing.timed => Ending::Listed,
-        Ok(_) => Ending::Timeless(chosen.track),
+        Ok(_) => Ending::Timeless(chosen.track, None),
         Err(fault) => Ending::Broken(fault),
     }
 }
 
 /// Aligns lines with a recording. `Broken` with the fault if the run was broken off. Else the
 /// ending is the first of these that holds: frames have a time and are not believed (`Doubted`,
-/// with how many); some frame is believed (`Aligned`, with whether the column of each line but the
-/// header has a number); or none is (`Timeless`).
+/// with how many); some frame is believed (`Aligned`); or none is (`Timeless`). Each has what was
+/// done with the lines.
 fn align_track<'a, R: Read, W: Write>(
     alloc: Global,
     chosen: &Chosen<'a>,
@@ -119,6 +123,7 @@ fn align_track<'a, R: Read, W: Write>(
     ensures { AlignsAs chosen.now recording.micros recording.edges (R.remaining lines.old)
         (R.remaining lines.new) (W.contents out.old) (W.contents out.new) result }
 {
+    let micros = recording.length();
     match align(
         alloc,
         recording,
@@ -127,11 +132,26 @@ fn align_track<'a, R: Read, W: Write>(
         chosen.format,
         &chosen.settings,
     ) {
-        Ok(outcome) if outcome.standing.doubted > 0 => {
-            Ending::Doubted(chosen.track, outcome.standing.doubted)
-        }
-        Ok(outcome) if outcome.standing.timed => Ending::Aligned(outcome.numbered),
-        Ok(_) => Ending::Timeless(chosen.track),
+        Ok(outcome) => ending_of(chosen, micros, outcome),
         Err(fault) => Ending::Broken(fault),
     }
+}
+
+/// How a run over all lines ended, with a track of some microseconds.
+fn ending_of<'a>(chosen: &Chosen<'a>, micros: u64, outcome: Outcome) -> Ending<'a>
+    ensures { EndsAs chosen.now micros outcome result }
+{
+    let standing = outcome.standing;
+    let done = Done {
+        tally: outcome.tally,
+        micros,
+        quiet: chosen.quiet,
+    };
+    if standing.doubted > 0 {
+        return Ending::Doubted(chosen.track, standing.doubted, Some(done));
+    }
+    if standing.timed {
+        return Ending::Aligned(done);
+    }
+    Ending::Timeless(chosen.track, Some(done))
 }

@@ -45,6 +45,7 @@ fn help_text<'a>() -> &'a str
      --alone                take each frame that reads well, supported by \
      another or not\n      \
      --why                  a word in place of - says why a line has no time\n      \
-     --table                print a table of the frames; no lines are read\n  \
+     --table                print a table of the frames; no lines are read\n      \
+     --quiet                no line at the end says what was done\n  \
      -h, --help                 Print help\n"
 }

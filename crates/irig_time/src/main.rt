@@ -12,6 +12,7 @@
 
 mod chosen;
 mod command_line;
+mod done;
 mod ending;
 mod file_run;
 mod help;

@@ -8,7 +8,7 @@
 
 ghost use Rattle.std.specs.Prelude.{◌≡◌, IfErr, IfOk};
 ghost use Rattle.irig_time.specs.Chosen.{HasSettings, IsChosen, IsSound, has_line_option};
-ghost use Rattle.irig_time.specs.Chosen.{lacks_year, wants_alone, wants_table, wants_why};
+ghost use Rattle.irig_time.specs.Chosen.{lacks_year, wants_alone, wants_quiet, wants_table, wants_why};
 ghost use Rattle.irig_time.specs.Faults.{HasFault};
 
 use crate::chosen::{Chosen, OptionFault};
@@ -53,6 +53,7 @@ pub fn chosen_of<'a>(raw: &RawValues<'a>) -> Result<Chosen<'a>, OptionFault>
         format,
         settings,
         table,
+        quiet: wants_quiet(raw),
     })
 }
 
@@ -61,6 +62,13 @@ fn wants_table(raw: &RawValues<'_>) -> bool
     ensures { result ≡ wants_table raw.now }
 {
     is_same(text_or(raw.table, "false"), b"true")
+}
+
+/// Whether what was done with the lines is not to be said: `--quiet`.
+fn wants_quiet(raw: &RawValues<'_>) -> bool
+    ensures { result ≡ wants_quiet raw.now }
+{
+    is_same(text_or(raw.quiet, "false"), b"true")
 }
 
 /// Whether each fine frame is to be believed, also if no other one supports it: `--alone`.

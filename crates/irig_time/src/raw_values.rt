@@ -38,4 +38,6 @@ pub struct RawValues<'a> {
     pub why: Option<&'a str>,
     /// `true`, if the table is asked for.
     pub table: Option<&'a str>,
+    /// `true`, if what was done with the lines is not said.
+    pub quiet: Option<&'a str>,
 }

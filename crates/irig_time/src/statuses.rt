@@ -10,8 +10,9 @@
 
 ghost use Rattle.std.specs.Prelude.{◌≡◌};
 ghost use Rattle.std.specs.Process.{exit_status};
-ghost use Rattle.irig_time.specs.Statuses.{Reports, broken_status};
+ghost use Rattle.irig_time.specs.{Done.lines_status, Statuses.Reports, Statuses.broken_status};
 
+use crate::done::Done;
 use crate::ending::Ending;
 use crate::help::program;
 use irig_stamps::{PrintFault, RunFault};
@@ -31,15 +32,10 @@ pub fn report<R: Eprint, H: Write>(rt: &R, ending: &Ending<'_>, help: &mut H) ->
     match ending {
         Ending::Usage(fault) => program.explain(rt, fault, help),
         Ending::Unread(path, fault) => program.tell_of(rt, 3, path, fault),
-        Ending::Aligned(true) | Ending::Listed => ExitCode::SUCCESS,
-        Ending::Aligned(false) => ExitCode::from(1),
-        Ending::Timeless(path) => program.tell_of(
-            rt,
-            1,
-            path,
-            &"no frame has a time with this format and expression",
-        ),
-        Ending::Doubted(path, count) => tell_doubted(rt, path, *count),
+        Ending::Aligned(done) => tell_aligned(rt, done),
+        Ending::Listed => ExitCode::SUCCESS,
+        Ending::Timeless(path, done) => tell_timeless(rt, path, done),
+        Ending::Doubted(path, count, done) => tell_doubted(rt, path, *count, done),
         Ending::Broken(fault) => tell_broken(rt, fault),
     }
 }
@@ -56,12 +52,46 @@ fn tell_broken<R: Eprint>(rt: &R, fault: &RunFault) -> ExitCode
     }
 }
 
-/// Says how many frames of the track at this path have a time and are not believed. The status is
-/// 1, also if that cannot be printed.
-fn tell_doubted<R: Eprint>(rt: &R, path: &str, count: usize) -> ExitCode
+/// Says what was done with the lines, and returns the status: 0 if each has a number, else 1.
+fn tell_aligned<R: Eprint>(rt: &R, done: &Done) -> ExitCode
+    ensures { exit_status result ≡ lines_status done.now.tally }
+{
+    tell_done(rt, done);
+    if done.tally.unnumbered == 0 {
+        return ExitCode::SUCCESS;
+    }
+    ExitCode::from(1)
+}
+
+/// Says that no frame of the track at this path has a time, and what was done with the lines, if
+/// they were read. The status is 1, also if that cannot be printed.
+fn tell_timeless<R: Eprint>(rt: &R, path: &str, done: &Option<Done>) -> ExitCode
+    ensures { exit_status result ≡ 1 }
+{
+    let what = "no frame has a time with this format and expression";
+    let _ = eprintln!(rt; "irig_time: {path}: {what}");
+    if let Some(done) = done {
+        tell_done(rt, done);
+    }
+    ExitCode::from(1)
+}
+
+/// Says how many frames of the track at this path have a time and are not believed, and what was
+/// done with the lines, if they were read. The status is 1, also if that cannot be printed.
+fn tell_doubted<R: Eprint>(rt: &R, path: &str, count: usize, done: &Option<Done>) -> ExitCode
     ensures { exit_status result ≡ 1 }
 {
     let what = "frames that read well and are not believed, so they give no line a time";
     let _ = eprintln!(rt; "irig_time: {path}: {what}: {count}");
+    if let Some(done) = done {
+        tell_done(rt, done);
+    }
     ExitCode::from(1)
+}
+
+/// Says what was done with the lines, unless that is not asked for.
+fn tell_done<R: Eprint>(rt: &R, done: &Done) {
+    if !done.quiet {
+        let _ = eprintln!(rt; "irig_time: {done}");
+    }
 }

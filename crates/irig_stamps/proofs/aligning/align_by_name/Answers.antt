@@ -1,5 +1,5 @@
 use Rattle.std.proofs.Common.{List, ℕ, inl, subst, sym}
-use Rattle.irig_stamps.specs.{Aligned.numbers_of, Aligned.with_column, Runs.Ends, TrackSettings.with_track}
+use Rattle.irig_stamps.specs.{Aligned.tally_of, Aligned.with_column, Runs.Ends, TrackSettings.with_track}
 use Rattle.std.specs.Io.KnownBytes.{Consumes}
 use Rattle.irig_stamps.proofs.aligning.align_by_name.Goals as goal
 
@@ -20,7 +20,7 @@ returns g c =
         ends = subst (λ (micros : ℕ). Ends c.args.format c.of-pulses.result.track.pulses
             (with_track c.args.format micros c.of-pulses.result.track.pulses (with_column c.args.settings.now c.in-Ok.found.column))
             from (g.R.Read.remaining c.align_track.new.lines) (g.W.Write.contents c.args.out.now) (g.W.Write.contents c.align_track.new.out)
-            (numbers_of c.align_track.result))
+            (tally_of c.align_track.result))
             c.of-pulses.ensures.length (c.align_track.ensures.ends from read);
         stands = c.align_track.ensures.stands;
       },

@@ -13,11 +13,11 @@ returns-in-Ok g c start read =
     let from = g.W.Write.contents c.args.out.now in
     let mid = g.W.Write.contents c.put_part.new.out in
     let is = c.put_part.new.state in
-    let begin = begun-with f ps s start from _ _ _ c.new-state.ensures.line c.new-state.ensures.count c.new-state.ensures.all in
+    let begin = begun-with f ps s start from _ _ _ c.new-state.ensures.line c.new-state.ensures.count c.new-state.ensures.tally in
     let went = c.in-Ok.ensures.step start start (g.R.Read.remaining c.args.lines.now) from begin read in
     let on = subst (λ b. GoesOn f ps s start (g.R.Read.remaining c.args.lines.now) from mid is (Ok b)) c.in-Ok.ensures.more went in
     let ended = c.run_rest.ensures start from (subst (λ (t : TrackView). Underway f t.pulses s start (g.R.Read.remaining c.args.lines.now) from mid
-    is.line.items is.count is.all) (sym c.in-Ok.ensures.pulses) on) in
+    is.line.items is.count is.tally) (sym c.in-Ok.ensures.pulses) on) in
     subst (λ (t : TrackView). Ends f t.pulses s start (g.R.Read.remaining c.run_rest.new.lines) from (g.W.Write.contents c.run_rest.new.out)
     c.run_rest.result) c.in-Ok.ensures.pulses ended
 
@@ -25,5 +25,5 @@ pub returns : goal.returns
 returns g c start read =
     let from = g.W.Write.contents c.args.out.now in
     let begin = begun-with c.args.format c.args.pulses.now.track.pulses c.args.settings.now start from _ _ _ c.new-state.ensures.line
-    c.new-state.ensures.count c.new-state.ensures.all in
+    c.new-state.ensures.count c.new-state.ensures.tally in
     c.in-Err.ensures.step start start (g.R.Read.remaining c.args.lines.now) from begin read

@@ -12,12 +12,12 @@ returns-in-Ok-true g c start from h =
     let f = c.args.format in
     let s = c.args.settings.now in
     let before = subst (λ (t : TrackView). Underway f t.pulses s start (g.R.Read.remaining c.loop-reads.lines) from (g.W.Write.contents c.loop-reads.out)
-    c.loop-reads.state.line.items c.loop-reads.state.count c.loop-reads.state.all) (sym i.track) (i.underway start from h) in
+    c.loop-reads.state.line.items c.loop-reads.state.count c.loop-reads.state.tally) (sym i.track) (i.underway start from h) in
     let after = c.in-Ok-true.ensures.step start from before in
     let done = subst (λ b. GoesOn f c.loop-reads.pulses.track.pulses s start (g.R.Read.remaining c.run_one_read.new.lines) from
     (g.W.Write.contents c.run_one_read.new.out) c.run_one_read.new.state (Ok b)) c.in-Ok-true.field-0-test after in
     subst (λ (t : TrackView). Ran f t.pulses s start (g.R.Read.remaining c.run_one_read.new.lines) from (g.W.Write.contents c.run_one_read.new.out)
-    c.run_one_read.new.state.all) i.track done
+    c.run_one_read.new.state.tally) i.track done
 
 pub returns : goal.returns
 returns g c start from h = stopped _ _ _ _ _ _ _ _ _ [] _ _ TooManyReads (c.loop-reads.invariant.underway start from h) (Consumes-nil _) (refl, refl)

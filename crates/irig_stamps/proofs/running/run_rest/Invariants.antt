@@ -6,9 +6,9 @@ abbrev pub invariant-loop-reads : goal.invariant-loop-reads
 invariant-loop-reads g l = record {
   underway : (start from : Option (List ℕ))
       → Underway l.format l.fn.pulses.track.pulses l.settings start (g.R.Read.remaining l.fn.lines) from (g.W.Write.contents l.fn.out)
-      l.fn.state.line.items l.fn.state.count l.fn.state.all
+      l.fn.state.line.items l.fn.state.count l.fn.state.tally
       → Underway l.format l.fn.pulses.track.pulses l.settings start (g.R.Read.remaining l.lines) from (g.W.Write.contents l.out)
-      l.state.line.items l.state.count l.state.all;
+      l.state.line.items l.state.count l.state.tally;
   empty : l.text.items ≡ [];
   track : l.pulses.track ≡ l.fn.pulses.track;
 }
