@@ -31,12 +31,16 @@ mod why;
 mod why_law;
 mod why_moment;
 
+pub use apart::{are_apart, day_micros};
 pub use by_count::time_by;
 pub use counted::timed_parts;
+pub use elements::{contradicts, fields_at, time_elements};
+pub use follows::same_day;
 pub use frame_lens::FrameLens;
 pub use part::Part;
 pub use part_law::parts_are_exact;
 pub use start::{FrameStart, start_of};
+pub use steps::{is_in_step_at, pulse_at};
 pub use support::held_frames;
 pub use time::{Time, timed};
 pub use why::{Why, Whys, find_whys};

@@ -30,7 +30,7 @@ pub fn pulse_at(pulses: &mut Lens<'_>, number: usize) -> Option<Pulse>
 /// long as those next to it (`is_even_at`). With the first test alone a rise could be late by two
 /// tenths if the clock is a tenth fast, so that its other steps are nine tenths of an interval.
 /// False for pulse 0, or if one of the two pulses of the step is not there.
-fn is_in_step_at(pulses: &mut Lens<'_>, format: Format, number: usize) -> bool
+pub fn is_in_step_at(pulses: &mut Lens<'_>, format: Format, number: usize) -> bool
     requires { number < 2 ^ 33 }
     ensures step { result ≡ is_in_step_at format pulses.old.track.pulses number }
     ensures pulses { pulses.new.track ≡ pulses.old.track }

@@ -1,0 +1,49 @@
+-- Known values, worked by hand and proved of the definitions by computing. Format B: an interval is 10,000 microseconds, so the 99
+-- intervals of a frame last 990,000.
+use Rattle.std.proofs.Common.{◌≡◌, ℕ, Bool, true, false, List, [], ◌∷◌, Option, Some, None, map, refl}
+use Rattle.std.specs.Prelude.{get_or}
+use Rattle.irig_times.specs.declared.time.Time.{Time}
+use Rattle.irig_law.specs.{Bridge.off, Bridge.on_line, Hop.hop, Names.seen}
+use Rattle.irig_law.specs.Hours.{earlier_in_hour, later_in_hour}
+use Rattle.irig_law.specs.declared.clock.Clock.{Clock}
+use Rattle.irig_law.specs.declared.names.Seen.{Seen}
+use Rattle.irig_law.specs.declared.names.Seen.TheVariants.{Named, Astray, Unknown}
+
+-- a clock of B that strays by two parts in a hundred thousand
+abbrev clock : Clock
+clock = record { span = 990000; slack = 20; tenth = 99000 }
+
+-- three intervals, and three less a tenth; three less a fifth are none, half an interval is none, and after 40,000 no one can be sure
+pub hops : map (hop clock) (30000 ∷ 29000 ∷ 28000 ∷ 5000 ∷ 400000000 ∷ []) ≡ Some 3 ∷ Some 3 ∷ None ∷ None ∷ None ∷ []
+hops = refl
+
+-- of a row that lost two pulses after the second one: a pulse that is no noise is named over the hole, one off the grid is astray
+abbrev rise : ℕ → ℕ
+rise k = get_or (0 ∷ 10000 ∷ 40000 ∷ 44000 ∷ 50000 ∷ []) k 0
+
+abbrev runs : ℕ → Bool
+runs k = get_or (true ∷ true ∷ true ∷ true ∷ true ∷ []) k false
+
+pub names : map (seen clock rise runs) (0 ∷ 1 ∷ 2 ∷ 3 ∷ 4 ∷ []) ≡ Named 0 ∷ Named 1 ∷ Named 4 ∷ Astray ∷ Named 5 ∷ []
+names = refl
+
+-- times in an hour: 12:34:56 and five seconds more are 12:35:01; 12:59:59 is the last second; 12:00:00 has none before it
+abbrev at : ℕ → ℕ → Time
+at minutes micros = record { year = None; days = 61; hours = 12; minutes = minutes; micros = micros }
+
+pub later : later_in_hour 1000000 5 (at 34 56000000) ≡ Some (at 35 1000000)
+later = refl
+
+pub last : later_in_hour 1000000 1 (at 59 59000000) ≡ None
+last = refl
+
+pub earlier : earlier_in_hour 1000000 57 (at 34 56000000) ≡ Some (at 33 59000000)
+earlier = refl
+
+pub first : earlier_in_hour 1000000 1 (at 0 0) ≡ None
+first = refl
+
+-- a hole of ten intervals in which ten passed, by a clock that runs within a thousandth: in the middle of it the line is off by 5 units
+-- of 10,000
+pub bridge : off (record { least = 999; most = 1001 }) 10 10000 5 ≡ 5
+bridge = refl

@@ -1,0 +1,57 @@
+-- Which pulses deny what they should be by a frame. This project's own.
+use Rattle.std.specs.Prelude.{◌≡◌, ℕ, ◌+◌, ◌-◌, ◌&&◌, ◌||◌, nat_le, Bool, true, false, List, Option}
+use Rattle.std.specs.Prelude.{Some, None, slice_get, if◌then◌else◌}
+use Rattle.irig_codes.specs.{Encoding.encoded, Fields.fits_in, Format.FormatView}
+use Rattle.irig_recording.specs.declared.pulse.Pulse.{Pulse}
+use Rattle.irig_times.specs.{OtherTimes.contradicts, OtherTimes.fields_at, Torn.is_stray}
+use Rattle.irig_law.specs.{Clocks.clock_of, Elements.element_after, Elements.element_in}
+use Rattle.irig_law.specs.{Names.seen, Rows.rise_in, Rows.runs_in, Rows.row_after, Rows.row_before}
+use Rattle.irig_law.specs.declared.point.Point.{Point}
+use Rattle.irig_law.specs.declared.frame.Frame.{Frame}
+use Rattle.irig_law.specs.declared.names.Seen.{Seen}
+use Rattle.irig_law.specs.declared.names.Seen.TheVariants.{Named, Astray, Unknown}
+
+-- a pulse is of another class than an element: a position identifier or none, or of those that
+-- carry the time
+abbrev pub is_unlike : FormatView → Option Pulse → Point → Bool
+is_unlike f p x =
+    fits_in f (fields_at f x.frame)
+    && (contradicts f x.element p (slice_get (encoded f (fields_at f x.frame)) x.element)
+    || is_stray f p (slice_get (encoded f (fields_at f x.frame)) x.element))
+
+abbrev pub is_denied : FormatView → Option Pulse → Option Point → Bool
+is_denied f p None = false
+is_denied f p (Some x) = is_unlike f p x
+
+-- a pulse denies what is seen of it: it is on no grid of the frame, or of another class
+abbrev pub denies_seen : FormatView → Frame → Bool → Option Pulse → Seen → Bool
+denies_seen f p is_back pulse (Named e) = is_denied f pulse (element_in f p is_back e)
+denies_seen f p is_back pulse Astray = true
+denies_seen f p is_back pulse Unknown = false
+
+-- the same of its name alone: one on no grid shows nothing
+abbrev pub denies_named : FormatView → Frame → Bool → Option Pulse → Seen → Bool
+denies_named f p is_back pulse (Named e) = is_denied f pulse (element_in f p is_back e)
+denies_named f p is_back pulse Astray = false
+denies_named f p is_back pulse Unknown = false
+
+-- what is seen of a pulse by the frame before it, or by the frame after it
+abbrev pub seen_after : FormatView → List Pulse → Frame → ℕ → ℕ → Seen
+seen_after f ps a slack k =
+    seen (clock_of f ps a slack) (rise_in ps (row_after a)) (runs_in f ps (row_after a))
+    (k - a.marker)
+
+abbrev pub seen_before : FormatView → List Pulse → Frame → ℕ → ℕ → Seen
+seen_before f ps b slack k =
+    seen (clock_of f ps b slack) (rise_in ps (row_before b)) (runs_in f ps (row_before b))
+    (b.marker - k)
+
+-- a pulse denies that; from its marker on, a frame has its elements
+abbrev pub denies_first : FormatView → List Pulse → Frame → ℕ → ℕ → Bool
+denies_first f ps a slack k =
+    denies_seen f a false (slice_get ps k) (seen_after f ps a slack k)
+
+abbrev pub denies_second : FormatView → List Pulse → Frame → ℕ → ℕ → Bool
+denies_second f ps b slack k =
+    if nat_le k b.marker then denies_seen f b true (slice_get ps k) (seen_before f ps b slack k)
+    else is_denied f (slice_get ps k) (element_after f b (k - b.marker))

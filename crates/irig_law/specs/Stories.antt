@@ -1,0 +1,66 @@
+-- What happened to a recording between two believed frames, and at its ends: the premises under
+-- which times are true. This project's own.
+use Rattle.std.specs.Prelude.{◌≡◌, ℕ, ◌+◌, ◌-◌, ◌*◌, ◌/◌, ◌<◌, ◌≤◌, List}
+use Rattle.irig_codes.specs.Format.{FormatView}
+use Rattle.irig_codes.specs.declared.fields.Fields.{Fields}
+use Rattle.irig_recording.specs.declared.pulse.Pulse.{Pulse}
+use Rattle.irig_times.specs.Times.{time_in}
+use Rattle.irig_law.specs.{Clocks.clock_of, Clocks.slack_of}
+use Rattle.irig_law.specs.Printed.{CountsOn, IsShown}
+use Rattle.irig_law.specs.Rows.{rise_in, row_after, row_before, runs_in}
+use Rattle.irig_law.specs.{Sides.Denies, Stretches.first_denials, Stretches.second_denials}
+use Rattle.irig_law.specs.Truth.{Sent}
+use Rattle.irig_law.specs.declared.frame.Frame.{Frame}
+
+-- Of the pulses after a frame's marker those with a name were sent. `name` is the number of the
+-- element that was sent when each pulse of the recording rose, `moment` when each element rises.
+abbrev pub SentAfter : FormatView → List Pulse → ℕ → Frame → ℕ → (ℕ → ℕ) → (ℕ → ℕ) → Type 0
+SentAfter f ps slack a last moment name =
+    Sent (clock_of f ps a slack) (rise_in ps (row_after a)) (runs_in f ps (row_after a)) moment
+    (λ i. name (a.marker + i)) last
+
+-- the same of those before it: elements and moments are counted back from its marker
+abbrev pub SentBefore : FormatView → List Pulse → ℕ → Frame → ℕ → (ℕ → ℕ) → (ℕ → ℕ) → Type 0
+SentBefore f ps slack b last moment name =
+    Sent (clock_of f ps b slack) (rise_in ps (row_before b)) (runs_in f ps (row_before b))
+    (λ e. moment (name b.marker) - moment (name b.marker - e))
+    (λ i. name b.marker - name (b.marker - i)) last
+
+-- No event was between two frames: both are undamaged, the sender counted on, each pulse with a
+-- name was sent, and the recorder's clock ran as the two frames show.
+pub record Quiet (f : FormatView) (ps : List Pulse) (a b : Frame) (moment name : ℕ → ℕ)
+    (sent : ℕ → Fields) : Type 0 where
+  pub frame : ℕ
+  pub shown : IsShown sent name a frame
+  pub whole : (e : ℕ) → e < 100 → name (a.marker + e) ≡ name a.marker + e
+  pub frame_after : ℕ
+  pub shown_after : IsShown sent name b frame_after
+  pub whole_after : (e : ℕ) → e < 100 → name (b.marker + e) ≡ name b.marker + e
+  pub sent_on : SentAfter f ps (slack_of ps a b) a (b.marker - a.marker) moment name
+  pub sent_back : SentBefore f ps (slack_of ps a b) b (b.marker - a.marker) moment name
+  pub counts : CountsOn f sent frame frame_after
+  pub inside : (k : ℕ) → a.marker ≤ k → k ≤ b.marker
+      → (frame ≤ name k / 100) × (name k / 100 ≤ frame_after)
+
+-- One event was, in or after some pulse: the recorder lost or repeated something, or the sender's
+-- clock was set. Up to that pulse all is as the first frame says, and from the next on as the
+-- second one says. Of the pulses on each side one at most is damaged so that it denies what was
+-- sent.
+pub record Eventful (f : FormatView) (ps : List Pulse) (a b : Frame)
+    (moment moment_after name : ℕ → ℕ) (sent : ℕ → Fields) : Type 0 where
+  pub event : ℕ
+  pub frame : ℕ
+  pub shown : IsShown sent name a frame
+  pub frame_after : ℕ
+  pub time_after : b.time ≡ time_in (sent frame_after) 0
+  pub whole_after : (k : ℕ) → a.marker + event < k → b.marker ≤ k → k < b.marker + 100
+      → name k ≡ 100 * frame_after + (k - b.marker)
+  pub sent_on : SentAfter f ps (slack_of ps a b) a event moment name
+  pub sent_back : SentBefore f ps (slack_of ps a b) b (b.marker - (a.marker + event + 1))
+      moment_after name
+  pub counts : (k : ℕ) → a.marker ≤ k → k ≤ a.marker + event → CountsOn f sent frame (name k / 100)
+  pub counts_after : (k : ℕ) → a.marker + event < k → CountsOn f sent (name k / 100) frame_after
+  pub one_before : (i j : ℕ) → i < j → j ≤ event → Denies (first_denials f ps a b) i
+      → Denies (first_denials f ps a b) j → ⊥
+  pub one_after : (i j : ℕ) → event < i → i < j → Denies (second_denials f ps a b) i
+      → Denies (second_denials f ps a b) j → ⊥

@@ -1,0 +1,74 @@
+-- THE LAW OF TIME between two believed frames next to each other: which element each pulse is, if
+-- that is known. A stretch goes from the marker of the first frame to the last element of the
+-- second one that carries its time. This project's own.
+use Rattle.std.specs.Prelude.{◌≡◌, ◌⊎◌, ℕ, zero, suc, ◌+◌, ◌-◌, ◌*◌, ◌≤◌, ◌<◌, ◌==◌, nat_le, nat_lt}
+use Rattle.std.specs.Prelude.{Bool, true, List, [], ◌∷◌, Option, Some, None, if◌then◌else◌}
+use Rattle.irig_codes.specs.Format.{FormatView}
+use Rattle.irig_recording.specs.declared.pulse.Pulse.{Pulse}
+use Rattle.irig_times.specs.OtherTimes.{time_elements}
+use Rattle.irig_law.specs.{Clocks.slack_of, Denials.denies_first, Denials.denies_second}
+use Rattle.irig_law.specs.{Denials.seen_after, Denials.seen_before, Elements.element_after}
+use Rattle.irig_law.specs.{Elements.element_before, Fits.Fits, Sides.IsAfter, Sides.IsBefore}
+use Rattle.irig_law.specs.declared.point.Point.{Point}
+use Rattle.irig_law.specs.declared.frame.Frame.{Frame}
+use Rattle.irig_law.specs.declared.names.Seen.{Seen}
+use Rattle.irig_law.specs.declared.names.Seen.TheVariants.{Named, Astray, Unknown}
+
+-- the element of what is seen by the first frame, or by the second one
+abbrev pub named_after : FormatView → Frame → Seen → Option Point
+named_after f a (Named e) = element_after f a e
+named_after f a Astray = None
+named_after f a Unknown = None
+
+abbrev pub named_before : FormatView → Frame → Seen → Option Point
+named_before f b (Named e) = element_before f b e
+named_before f b Astray = None
+named_before f b Unknown = None
+
+-- names after the first frame and before the second one are of one element, if both are known
+abbrev pub are_alike : ℕ → Seen → Seen → Bool
+are_alike whole (Named e) (Named g) = e + g == whole
+are_alike whole (Named e) Astray = true
+are_alike whole (Named e) Unknown = true
+are_alike whole Astray s = true
+are_alike whole Unknown s = true
+
+abbrev pub first_of : Option Point → Option Point → Option Point
+first_of None y = y
+first_of (Some x) y = Some x
+
+abbrev pub middle_element : FormatView → Frame → Frame → ℕ → Seen → Seen → Option Point
+middle_element f a b whole s t =
+    if are_alike whole s t then first_of (named_after f a s) (named_before f b t) else None
+
+-- Without an event: a frame's own pulses are its elements, and those between have their name by one
+-- frame, and no other by the other one. The frames are `whole` elements apart.
+abbrev pub quiet_of : FormatView → Frame → Frame → ℕ → ℕ → Seen → Seen → Option Point
+quiet_of f a b whole k s t =
+    if nat_lt k (a.marker + 100) then element_after f a (k - a.marker)
+    else (if nat_le b.marker k then element_after f b (k - b.marker)
+    else middle_element f a b whole s t)
+
+abbrev pub quiet_element : FormatView → List Pulse → Frame → Frame → ℕ → ℕ → Option Point
+quiet_element f ps a b n k =
+    quiet_of f a b (100 * n) k (seen_after f ps a (slack_of ps a b) k)
+    (seen_before f ps b (slack_of ps a b) k)
+
+-- after an event: its name by the second frame, from the marker of that one on its element
+abbrev pub by_second : FormatView → Frame → ℕ → Seen → Option Point
+by_second f b k t =
+    if nat_le k b.marker then named_before f b t else element_after f b (k - b.marker)
+
+-- how many pulses a stretch has; of each, whether it denies its name by one of the frames
+abbrev pub stretch : FormatView → Frame → Frame → ℕ
+stretch f a b = b.marker + time_elements f.kind - a.marker
+
+abbrev pub denials : (ℕ → Bool) → ℕ → ℕ → List Bool
+denials test k zero = []
+denials test k (suc n) = test k ∷ denials test (k + 1) n
+
+abbrev pub first_denials : FormatView → List Pulse → Frame → Frame → List Bool
+first_denials f ps a b = denials (denies_first f ps a (slack_of ps a b)) a.marker (stretch f a b)
+
+abbrev pub second_denials : FormatView → List Pulse → Frame → Frame → List Bool
+second_denials f ps a b = denials (denies_second f ps b (slack_of ps a b)) a.marker (stretch f a b)

@@ -1,0 +1,20 @@
+//! The law of time: what a recording shows of the time of its pulses, and when that is true.
+#![tactic(auto)]
+
+mod bridge;
+mod clock;
+mod frame;
+mod law;
+mod names;
+mod point;
+mod row;
+mod sides;
+
+pub use bridge::{Bridge, bridge_over};
+pub use clock::{Clock, hop_over};
+pub use frame::Frame;
+pub use law::times_are_true;
+pub use names::{Seen, names_in};
+pub use point::Point;
+pub use row::Row;
+pub use sides::{Sides, sides_of};
