@@ -16,13 +16,14 @@ use Rattle.irig_guarding.specs.Repair.{Asks, IsGroup, IsPrinted, ObeyedAll, text
 use Rattle.irig_guarding.specs.Printed.{AreRemarksOf, IsRemarkOf, Prints, Shows}
 use Rattle.irig_guarding.specs.{SafeBy.IsSafeAt, SafeBy.IsSafeBy, Reading.fine_frames, RepairLines.IsIdle, Trial.Tries, declared.reason.Reason.Reason}
 use Rattle.irig_guarding.specs.declared.line.Line.{Line}
-use Rattle.irig_guarding.specs.{Reading.original_of, Repair.Agrees}
+use Rattle.irig_guarding.specs.{Reading.original_of, Repair.Agrees, Undone.IsUndone}
 use Rattle.irig_guarding.specs.Reasons.{head_lines, reason_line}
 use Rattle.irig_safety.specs.{Moved.located, Original.others_of, Original.with_frames}
 use Rattle.irig_safety.proofs.MovedLemmas.{located_self}
 use Rattle.irig_safety.specs.{Original.OriginalView, Safety.IsSafe, Safety.IsSafeFrom, Safety.NoneIsSpoiled, declared.shown.Shown.Shown}
 use Rattle.irig_safety.specs.Terms.{OthersView, TermsView}
 use Rattle.irig_guarding.proofs.{AgainLemmas.obeyed_again, ControlLemmas.borne_self, PulseLemmas.stand_self, ReasonLemmas.head_remarks, ReasonLemmas.reason_remark, RepairLemmas.obeyed_then}
+use Rattle.irig_guarding.proofs.UndoneLemmas.{obeyed_redo, redoes_then}
 
 pub on_ok : {V E : Type 0} {P Q : Type 0} (r : Result V E) → OnOk r P → (P → Q) → OnOk r Q
 on_ok (Ok v) p f = f p
@@ -87,6 +88,7 @@ stands_more first a b old new lines plain h text s =
       left = on.0;
       obeyed = obeyed_then first s.left on.0 s.lines lines s.obeyed on.1;
       same = on.2;
+      redo = redoes_then first a b s.redo (obeyed_redo a b lines h);
     }
 
 pub remarks_plain : (remarks : List (List ℕ)) → AllByRecursion IsRemark remarks → AllByRecursion IsPlain remarks
@@ -103,8 +105,8 @@ agrees_agrees a b c h k =
 
 -- and lines that are not
 pub stands_remarks : (first a b : Machine) (old new : List ℕ) → ((rs : List (List ℕ)) × AllByRecursion IsRemark rs × (new ≡ old ++ unlines rs))
-    → Agrees b a → Reaches first old a → Reaches first new b
-stands_remarks first a b old new remarks same s =
+    → IsUndone a b → Reaches first old a → Reaches first new b
+stands_remarks first a b old new remarks undone s =
     let on = stands_more first a a old new remarks.0 (remarks_plain remarks.0 remarks.1) (remarks_obeyed a remarks.0 remarks.1) remarks.2 s in
     record {
       lines = on.lines;
@@ -112,7 +114,8 @@ stands_remarks first a b old new remarks same s =
       cut = on.cut;
       left = on.left;
       obeyed = on.obeyed;
-      same = agrees_agrees on.left a b on.same same;
+      same = agrees_agrees on.left a b on.same undone.same;
+      redo = redoes_then first a b s.redo undone.redo;
     }
 
 -- what reads well is safe by itself
@@ -154,6 +157,7 @@ stands_guarded terms m first now script e s safe =
       left = s.left;
       runs = subst (λ (l : List (List ℕ)). Runs first l (map silence l) [] s.left) (sym lines) (runs_of first s.left s.lines s.obeyed);
       same = s.same;
+      redo = s.redo;
       safe = subst (λ (b : TermsView). IsSafeAfter b first.state now.state) e safe;
     }
 
@@ -186,6 +190,7 @@ stands_head m opened out e =
       left = m;
       obeyed = remarks_obeyed m (head_lines opened) remarks;
       same = record { state = refl; cursor = refl; past = refl; floor = refl };
+      redo = inl refl;
     }
 
 few_taken : (n : ℕ) (xs : List ℕ) → length (take n xs) ≤ n

@@ -14,3 +14,4 @@ pub mod RepairLemmas
 pub mod RisingFrames
 pub mod RisingPulses
 pub mod TrialLemmas
+pub mod UndoneLemmas

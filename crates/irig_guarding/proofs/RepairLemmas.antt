@@ -116,7 +116,8 @@ obeyed_then a b c [] ys h k = subst (λ (m : Machine). ObeyedAll m ys c) h k
 obeyed_then a b c (x ∷ xs) ys h k = (h.0, h.1, obeyed_then h.0 b c xs ys h.2 k)
 
 -- a call that nothing refuses and that takes no memory is accepted
-never_refused : (call : Call) (old new : Work) (why : Refusal) → refusal_of call old ≡ None → (MayWantMemory call → ⊥) → whole.Steps call old (Err why) new → ⊥
+pub never_refused : (call : Call) (old new : Work) (why : Refusal) → refusal_of call old ≡ None → (MayWantMemory call → ⊥)
+    → whole.Steps call old (Err why) new → ⊥
 never_refused call old new refusal.OutOfRange none sure h = let bad : None ≡ Some refusal.OutOfRange = sym none ∙ h.0 in cc
 never_refused call old new refusal.NoPulse none sure h = let bad : None ≡ Some refusal.NoPulse = sym none ∙ h.0 in cc
 never_refused call old new refusal.Touching none sure h = let bad : None ≡ Some refusal.Touching = sym none ∙ h.0 in cc

@@ -11,6 +11,7 @@ use Rattle.irig_edit.specs.{Session.Session.work_in, State.State.State}
 use Rattle.irig_safety.specs.Terms.{TermsView}
 use Rattle.irig_guarding.specs.{SafeBy.IsSafeBy, Reading.original_of}
 use Rattle.irig_guarding.specs.Repair.{Agrees, Asks, ObeyedAll}
+use Rattle.irig_guarding.specs.Undone.{RedoesNoMore}
 
 -- the line is accepted, and prints nothing
 abbrev pub silence : List ℕ → Answer
@@ -23,13 +24,15 @@ pub record IsSafeAfter (terms : TermsView) (old new : State) : Type 0 where
   pub safe : IsSafeBy (original_of terms old) new
 
 -- a script was printed. From the session as it was opened each of its lines is accepted in silence,
--- and what they lead to is what the session is now; and that is safe by what it was
+-- and what they lead to is what the session is now; and that is safe by what it was. What can be
+-- redone is what could be as it was opened, or nothing
 pub record IsGuarded (terms : TermsView) (opened : Machine) (script : List ℕ) (now : Machine)
     : Type 0
   where
     pub left : Machine
     pub runs : Runs opened (script_lines script) (map silence (script_lines script)) [] left
     pub same : Agrees left now
+    pub redo : RedoesNoMore opened now
     pub safe : IsSafeAfter terms opened.state now.state
 
 -- a comment, or a blank line
@@ -45,6 +48,7 @@ pub record Reaches (opened : Machine) (script : List ℕ) (now : Machine) : Type
   pub left : Machine
   pub obeyed : ObeyedAll opened lines left
   pub same : Agrees left now
+  pub redo : RedoesNoMore opened now
 
 -- in this run memory did not run out, and no write failed
 abbrev pub MeetsNothing : List Answer → Type 0

@@ -18,3 +18,4 @@ pub mod Standing
 pub mod Stays
 pub mod Trial
 pub mod Trials
+pub mod Undone

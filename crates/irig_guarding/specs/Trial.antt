@@ -1,8 +1,8 @@
--- A repair that is tried is kept, or it is dropped and all is as it was. This project's own.
+-- A repair that is tried is kept, or it is dropped and undone. This project's own.
 use Rattle.std.specs.Prelude.{◌≡◌, ℕ, List, [], ◌∷◌, Option, Some, None}
 use Rattle.std.specs.List.{flat_map}
 use Rattle.irig_script.specs.{Obey.Machine.Machine}
-use Rattle.irig_guarding.specs.Repair.{Agrees, ObeyedAll}
+use Rattle.irig_guarding.specs.{Repair.ObeyedAll, Undone.IsUndone}
 use Rattle.irig_guarding.specs.Reading.{fine_frames}
 use Rattle.irig_guarding.specs.declared.reason.Reason.{Reason}
 use Rattle.irig_safety.specs.{Original.OriginalView}
@@ -17,11 +17,11 @@ pub record Keeps (opened : OriginalView) (old : Machine) (lines : List (List ℕ
     pub obeyed : ObeyedAll old lines new
     pub stays : MayStay opened (fine_frames old.state) new.state
 
--- a repair is tried: it is kept, or it is dropped and all is as it was
+-- a repair is tried: it is kept, or it is dropped and undone
 abbrev pub Tries : OriginalView → Machine → List (List ℕ) → Option Reason → Machine → Type 0
 Tries opened old lines None new = Keeps opened old lines new
 Tries opened old lines (Some reason) new =
-    Agrees new old × Drops opened (fine_frames old.state) old lines reason
+    IsUndone old new × Drops opened (fine_frames old.state) old lines reason
 
 -- a repair, and why it is dropped, if it is
 pub record Trial : Type 0 where

@@ -162,11 +162,11 @@ fn guard_repair(
 }
 
 /// Tries one repair. Returns why it was dropped; `None` if it was kept. If it was kept,
-/// `known_markers` and `last` become those after it. If it was dropped, it is undone: nothing has
-/// changed but what can be redone. A comment or blank line alone is kept, since it does nothing
-/// (`is_lone_comment`). `keep_if_safe` gets a copy of `known_markers` (`tried`), since it leaves
-/// wrong ones after an error. Memory that runs out for that copy is `Err`; if it runs out in
-/// `keep_if_safe`, that is the reason `OutOfMemory`.
+/// `known_markers` and `last` become those after it. If it was dropped, it is undone for good:
+/// nothing has changed, but nothing may be left to redo. A comment or blank line alone is kept,
+/// since it does nothing (`is_lone_comment`). `keep_if_safe` gets a copy of `known_markers`
+/// (`tried`), since it leaves wrong ones after an error. Memory that runs out for that copy is
+/// `Err`; if it runs out in `keep_if_safe`, that is the reason `OutOfMemory`.
 fn try_repair(
     alloc: Global,
     session: &mut Session,

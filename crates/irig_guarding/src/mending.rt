@@ -1,24 +1,25 @@
-//! Repairs that are tried, and kept if they are safe. A repair is an edit, or a group of edits from
-//! `begin` to `end`; the lines between these two are its inner lines. A frame reads well if nothing
-//! is wrong in it. A repair is safe if no frame that read well is lost or becomes wrong, and each
-//! new one is supported by the frames next to it. `opened` is what is known of the recording.
-//! `known_markers` has for each frame of it that read well the marker at which its pulses are known
-//! to rise as they did, or `None`; after an error it is not used. `before` is the frames that read
-//! well before the repair. A `Reason` is why a repair is not kept: `NoRepair` if it is no edit and
-//! no group of edits, `Refused` if the editor refuses a line, `NotSafe` with the first fault of the
-//! frames that it leads to, or `OutOfMemory`. In contracts `floor ≡ None`: no group is open, and
-//! `Agrees`: all is the same but for what can be redone. `Holds` and `Drops`: why the end of a
-//! group, and a repair, failed.
+//! Repairs that are tried, and kept if they are safe. A repair is an edit, or a group of edits
+//! from `begin` to `end`; the lines between these two are its inner lines. A frame reads well if
+//! nothing is wrong in it. A repair is safe if no frame that read well is lost or becomes wrong,
+//! and each new one is supported by the frames next to it. `opened` is what is known of the
+//! recording. `known_markers` has for each frame of it that read well the marker at which its
+//! pulses are known to rise as they did, or `None`; after an error it is not used. `before` is the
+//! frames that read well before the repair. A `Reason` is why a repair is not kept: `NoRepair` if
+//! it is no edit and no group of edits, `Refused` if the editor refuses a line, `NotSafe` with the
+//! first fault of the frames that it leads to, or `OutOfMemory`. In contracts `floor ≡ None`: no
+//! group is open, and `IsUndone`: all is as it was, and nothing can be redone that could not be.
+//! `Holds` and `Drops`: why the end of a group, and a repair, failed.
 
 ghost use Rattle.std.specs.Prelude.{◌≡◌, ◌∷◌, ◌++◌, [], ℕ, List, None, IfErr, IfOk, OnErr, OnOk};
 ghost use Rattle.irig_edit.specs.{Session.Calls.Call, Session.Session.work_in};
 ghost use Rattle.irig_guarding.specs.{Known.AreKnown, Reading.Lists};
-ghost use Rattle.irig_guarding.specs.Repair.{Agrees, Asks, IsGroup, IsRepair, Obeyed, ObeyedAll};
-ghost use Rattle.irig_guarding.specs.Repair.{texts};
+ghost use Rattle.irig_guarding.specs.Repair.{Asks, IsGroup, IsRepair, Obeyed, ObeyedAll, texts};
+ghost use Rattle.irig_guarding.specs.Undone.{IsUndone};
 ghost use Rattle.irig_guarding.specs.{Drops.Drops, Drops.Holds, RepairLines.IsIdle, Stays.MayStay};
 ghost use Rattle.irig_lines.specs.declared.command.Command.TheVariants as command;
+ghost use Rattle.irig_lines.specs.declared.command.Command.{Command as SomeCommand};
 ghost use Rattle.irig_script.specs.declared.print.reply.Reply.TheVariants.{Silent};
-ghost use Rattle.irig_script.specs.{Obey.Obeying.Obeys, Obey.Replies.Calls};
+ghost use Rattle.irig_script.specs.{Obey.Machine.Machine, Obey.Obeying.Obeys, Obey.Replies.Calls};
 
 use crate::commands::{begins, command_of, ends, is_edit};
 use crate::judging::check;
@@ -55,11 +56,11 @@ fn end_safely(
     }
 }
 
-/// Obeys a group by its inner lines. If what they do is safe, keeps it, and returns the frames that
-/// read well after it. If not, the group is given up: all is as it was but for what can be redone.
-/// `Err` is the reason of the first line that fails (`obey_inner_lines`), or why the group may not
-/// be kept (`end_safely`). Neither `begin` nor `abort` is refused, as no group is open at first. So
-/// what `abort` returns is dropped.
+/// Obeys a group by its inner lines. If what they do is safe, keeps it, and returns the frames
+/// that read well after it. If not, the group is given up: all is as it was, and nothing can be
+/// redone. `Err` is the reason of the first line that fails (`obey_inner_lines`), or why the group
+/// may not be kept (`end_safely`). Neither `begin` nor `abort` is refused, as no group is open at
+/// first. So what `abort` returns is dropped.
 fn keep_group_if_safe(
     alloc: Global,
     session: &mut Session,
@@ -76,7 +77,7 @@ fn keep_group_if_safe(
     ensures drops { (first last : List ℕ) → Asks command.Begin first → Asks command.End last
         → IfErr result (Drops opened.now before.now session.old
         (first ∷ (texts lines.now ++ last ∷ []))) }
-    ensures undone { OnErr result (Agrees session.new session.old) }
+    ensures undone { OnErr result (IsUndone session.old session.new) }
     ensures closed { session.new.floor ≡ None }
     ensures format { session.new.state.format ≡ session.old.state.format }
     ensures known { OnOk result (AreKnown opened.now session.new.state.pulses
@@ -99,9 +100,8 @@ fn keep_group_if_safe(
 }
 
 /// Obeys an edit. If it is safe, keeps it, and returns the frames that read well after it. If not,
-/// it is undone: all is as it was but for what can be redone. `Err` is `Refused` if the editor
-/// refuses it (`obey_edit`), or else why it may not be kept: `NotSafe` or `OutOfMemory` (`check`).
-/// The undo is never refused, so what it returns is dropped.
+/// it is undone for good (`undo_for_good`). `Err` is `Refused` if the editor refuses it
+/// (`obey_edit`), or else why it may not be kept: `NotSafe` or `OutOfMemory` (`check`).
 fn keep_edit_if_safe(
     alloc: Global,
     session: &mut Session,
@@ -118,7 +118,7 @@ fn keep_edit_if_safe(
     ensures stays { OnOk result (MayStay opened.now before.now session.new.state) }
     ensures drops { (line : List ℕ) → Asks command line
         → IfErr result (Drops opened.now before.now session.old (line ∷ [])) }
-    ensures undone { OnErr result (Agrees session.new session.old) }
+    ensures undone { OnErr result (IsUndone session.old session.new) }
     ensures closed { session.new.floor ≡ None }
     ensures format { session.new.state.format ≡ session.old.state.format }
     ensures known { OnOk result (AreKnown opened.now session.new.state.pulses
@@ -130,16 +130,28 @@ fn keep_edit_if_safe(
     match check(alloc, session, opened, known_markers.as_slice(), before) {
         Ok(frames) => Ok(frames),
         Err(reason) => {
-            let _ = session.undo();
+            undo_for_good(session);
             Err(reason)
         }
     }
 }
 
+/// Undoes an edit for good: it cannot be redone. An undo alone would leave it to be redone, and a
+/// saved session would have it. A group that is given up leaves nothing to redo, so an empty one
+/// follows. None of the three calls is refused, so what they return is dropped.
+fn undo_for_good(session: &mut Session)
+    ensures { (edit : SomeCommand) (before : Machine) → IsRepair edit → before.floor ≡ None
+        → Obeys edit before Silent session.old → IsUndone before session.new }
+{
+    let _ = session.undo();
+    let _ = session.begin();
+    let _ = session.abort();
+}
+
 /// Obeys a line that is a repair of its own: an edit (`keep_edit_if_safe`). If it is safe, keeps
-/// it, and returns the frames that read well after it. If not, all is as it was but for what can be
-/// redone. Any other line is `NoRepair`, also one that is not valid or too long. So is a comment,
-/// but none comes here: `try_repair` keeps those.
+/// it, and returns the frames that read well after it. If not, nothing is left of it. Any other
+/// line is `NoRepair`, also one that is not valid or too long. So is a comment, but none comes
+/// here: `try_repair` keeps those.
 fn keep_line_if_safe(
     alloc: Global,
     session: &mut Session,
@@ -155,7 +167,7 @@ fn keep_line_if_safe(
     ensures stays { OnOk result (MayStay opened.now before.now session.new.state) }
     ensures drops { (Asks command.Nothing line.now.bytes.items → ⊥)
         → IfErr result (Drops opened.now before.now session.old (line.now.bytes.items ∷ [])) }
-    ensures undone { OnErr result (Agrees session.new session.old) }
+    ensures undone { OnErr result (IsUndone session.old session.new) }
     ensures closed { session.new.floor ≡ None }
     ensures format { session.new.state.format ≡ session.old.state.format }
     ensures known { OnOk result (AreKnown opened.now session.new.state.pulses
@@ -175,9 +187,8 @@ fn keep_line_if_safe(
 
 /// Obeys a repair: one line that is an edit (`keep_line_if_safe`), or two lines or more that are a
 /// group, from `begin` to `end` (`keep_group_if_safe`). If it is safe, keeps what it did, and
-/// returns the frames that read well after it. If not, all is as it was but for what can be redone.
-/// `NoRepair` for any other lines, also for a group that `abort` gives up, or that no line closes,
-/// and for no lines.
+/// returns the frames that read well after it. If not, nothing is left of it. `NoRepair` for any
+/// other lines, also for a group that `abort` gives up, or that no line closes, and for no lines.
 pub fn keep_if_safe(
     alloc: Global,
     session: &mut Session,
@@ -193,7 +204,7 @@ pub fn keep_if_safe(
     ensures stays { OnOk result (MayStay opened.now before.now session.new.state) }
     ensures drops { (IsIdle (texts repair.now) → ⊥)
         → IfErr result (Drops opened.now before.now session.old (texts repair.now)) }
-    ensures undone { OnErr result (Agrees session.new session.old) }
+    ensures undone { OnErr result (IsUndone session.old session.new) }
     ensures closed { session.new.floor ≡ None }
     ensures format { session.new.state.format ≡ session.old.state.format }
     ensures known { OnOk result (AreKnown opened.now session.new.state.pulses
