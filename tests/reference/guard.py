@@ -17,6 +17,9 @@ UNRECORDED = "would have control functions that are not supported"
 MOVED = ": its pulses would move"
 MISPLACED = ": its pulses would rise where nothing supports it"
 ALONE = "fine frames would not support each other"
+REMOVED = "the pulse at %d is in step, and would be gone"
+UNJUDGED = "no frame would be fine to go by"
+IN_STEP = 10  # parts of an interval: by one of them the distance of pulses that are in step can be off, and a pulse in its place
 EDITS = {
     "insert": machine.insert, "delete": machine.delete, "split": machine.split, "join": machine.join,
     "shift": machine.shift, "invert": machine.invert, "force": machine.force, "regen": machine.regen,
@@ -53,15 +56,24 @@ class Safety:
         self.moved = moved
         self.controls = Controls(opened, self.fines, self.bearing, [fine(other) for other in others])
         self.anchors = Anchors(opened, self.bearing)
+        self.loose = loose(opened, self.fines)
 
-    def fault(self, last: Sequence[Shown], new: Sequence[Fine]) -> Optional[str]:
-        """Why what is fine now is not safe; `last` was fine after the last repair that was kept."""
+    def fault(self, last: Sequence[Shown], new: Sequence[Fine], pulses: Sequence[Tuple[int, int]]) -> Optional[str]:
+        """Why what is fine now is not safe, or these pulses are not; `last` was fine after the last repair that was kept."""
         now = [frame.shown for frame in new]
         if not self.old:
-            return self._first([None if self._support_each_other(now) else ALONE, self._unrooted(new), self._lost(last, now)])
+            found = [None if self._support_each_other(now) else ALONE, self._unrooted(new), self._lost(last, now)]
+            return self._first([*found, self._removed(pulses), None if now else UNJUDGED])
         old = located(self.old, now) if self.moved else self.old
         found = [self._times(old, now), self._controls(old, new), self._pulses(old, new)]
-        return self._first([*found, self._lost(located(last, now) if self.moved else last, now)])
+        return self._first([*found, self._lost(located(last, now) if self.moved else last, now), self._removed(pulses)])
+
+    def _removed(self, pulses: Sequence[Tuple[int, int]]) -> Optional[str]:
+        """The first pulse that was in step, in no frame that was fine, and in whose place none is now: none rises there, to a tenth
+        of an interval, and none falls when it rose, as if it was turned over. It is not asked if frames may move."""
+        reach, rises, falls = self.bearing.interval // IN_STEP, [rise for rise, _ in pulses], {fall for _, fall in pulses}
+        gone = (rise for rise in self.loose if not rises[bisect_left(rises, rise - reach):bisect_right(rises, rise + reach)])
+        return None if self.moved else next((REMOVED % rise for rise in gone if rise not in falls), None)
 
     def _first(self, found: Sequence[Optional[str]]) -> Optional[str]:
         return next((why for why in found if why), None)
@@ -152,6 +164,15 @@ class Safety:
     def _support_each_other(self, new: Sequence[Shown]) -> bool:
         """If nothing was fine: whether there are none, or at least three, each of which leads to the next."""
         return not new or (len(new) >= 3 and all(self.bearing.leads(*pair) for pair in zip(new, new[1:])))
+
+
+def loose(opened: machine.State, fines: Sequence[Fine]) -> List[int]:
+    """The rises of the pulses that are in step, and in no frame that is fine: the two before each and the two after it follow each other
+    by one interval, to a tenth."""
+    rises, interval = [rise for rise, _ in opened.pulses()], opened.interval()
+    step = [IN_STEP * abs(after - rise - interval) <= interval for rise, after in zip(rises, rises[1:])]
+    of_frames = {rise for frame in fines for rise, _ in frame.pulses}
+    return [rise for place, rise in enumerate(rises[2:-2]) if all(step[place:place + 4]) and rise not in of_frames]
 
 
 def since(frame: Fine) -> List[int]:
@@ -378,7 +399,8 @@ class Anchors:
 
 
 class Guard:
-    """A run over a proposed script. `printed` has its lines, `refused` is whether some were not kept."""
+    """A run over a proposed script. `printed` has its lines, `refused` is whether some were not kept; `is_judged` is whether there
+    was a frame to go by: if not, nothing is written."""
 
     def __init__(self, opened: machine.Machine, moved: bool = False, others: Sequence[machine.State] = ()) -> None:
         self.machine = opened
@@ -398,9 +420,15 @@ class Guard:
                 self.refused = True
                 self.printed += [NOT_KEPT + reason.encode(), *map(commented, repair)]
 
+    @property
+    def is_judged(self) -> bool:
+        return bool(self.safety.old or self.last)
+
     def remark(self) -> bytes:
-        """How many frames have a control function that is not in the recording, as it is said on the standard error; nothing if none
-        has. They are not counted if frames may move, or if nothing was fine."""
+        """What is said on the standard error: how many frames have a control function that is not in the recording, if some have.
+        They are not counted if frames may move, or if nothing was fine. Or that there was no frame to go by."""
+        if not self.is_judged:
+            return b"no frame is fine, so nothing is kept, and nothing is written"
         many = sum(not self.safety.controls.are_recorded(frame) for frame in fine(self.machine.present))
         if not many or self.safety.moved or not self.safety.old:
             return b""
@@ -413,7 +441,7 @@ class Guard:
         before = self.machine.present, list(self.machine.past), list(self.machine.made)
         reason = self._stopped(repair)
         new = fine(self.machine.present)
-        reason = reason or self.safety.fault(self.last, new)
+        reason = reason or self.safety.fault(self.last, new, self.machine.present.pulses())
         if reason is None:
             self.last = [frame.shown for frame in new]
         else:

@@ -25,6 +25,7 @@ class Row(NamedTuple):
     moved: bool = False  # with --moved
     filled: int = 0  # frames with a control function that is not in the recording
     others: Sequence[Pulses] = ()  # with --with
+    judged: bool = True  # whether there is a frame to go by; if not, the status is 1, and nothing is written
 
 
 def values_of(form: str, when: datetime.datetime, control: int = 0, second: int = -1) -> Dict[str, int]:
@@ -168,6 +169,10 @@ LOST, CHANGED, UNSUPPORTED = "would be lost", "would change", "would have a time
 UNRECORDED = "would have control functions that are not supported"
 MOVED, MISPLACED = ": its pulses would move", ": its pulses would rise where nothing supports it"
 NOTHING_FINE = "# nothing to go by: no frame of the recording is fine"
+UNJUDGED = "no frame would be fine to go by"
+GONE = "the pulse at %d is in step, and would be gone"
+LAST_BROKEN = without(SOUND, 643)
+HUNDREDTHS_BROKEN = without(HUNDREDTHS, 643)
 
 ALONE = without(SOUND, 343, *range(201, 300), *range(401, 500))  # frame 3, without element 42, between two holes
 TENTH = ["begin", "insert 3400900 3405900", "insert 3410000 3412000", "insert 3419100 3421100", "end"]  # elements 40 to 42
@@ -291,7 +296,12 @@ ROWS = (
         [*LATER, "363,375 shift 400", "end"], [*LATER, "363,375 shift 400", "end"]),
     Row("a recording that is upside down", "B4", TURNED,
         ["invert 0 7000000"], [NOTHING_FINE, "invert 0 7000000"]),
-    Row("an empty script for it", "B4", TURNED, [], [NOTHING_FINE]),
+    Row("an empty script for it", "B4", TURNED, [], [NOTHING_FINE], judged=False),
+    Row("a comment for it", "B4", TURNED, ["# one"], [NOTHING_FINE, "# one"], judged=False),
+    Row("repairs of it that make no frame fine", "B4", TURNED, ["1 delete", "mark a 7"],
+        [NOTHING_FINE, *each_dropped(UNJUDGED, "1 delete", "mark a 7")], judged=False),
+    Row("repairs of it before one that makes all fine", "B4", TURNED, ["mark a 7", "invert 0 7000000", "mark a 7"],
+        [NOTHING_FINE, *dropped(UNJUDGED, "mark a 7"), "invert 0 7000000", "mark a 7"]),
     # control functions alone of frames that were fine
     Row("a control function that both nearest frames do not have", "B4", changed(SOUND, 363, "one"),
         ["363 force zero"], ["363 force zero"], filled=1),
@@ -371,7 +381,28 @@ ROWS = (
         unsafe("138 12:34:53", 3002000, MISPLACED, *moves(2000))),
     Row("pulses between recorded ones", "B4", without(SOUND, 341, 342, 343), TENTH, TENTH),
     Row("frames of nothing", "B4", [[0, 10], [9999990, 10000000]], ["regen 1000000 4 1987-200T03:04:05"],
-        [NOTHING_FINE, *unsafe("200 03:04:06", 2000000, MISPLACED, "regen 1000000 4 1987-200T03:04:05")]),
+        [NOTHING_FINE, *unsafe("200 03:04:06", 2000000, MISPLACED, "regen 1000000 4 1987-200T03:04:05")], judged=False),
+    # pulses of frames that stay broken: the last frame has no element 42, so pulse 650 rises at 6500000
+    Row("a pulse that is in step", "B4", LAST_BROKEN, ["650 delete"], dropped(GONE % 6500000, "650 delete")),
+    Row("the first of several", "B4", LAST_BROKEN, ["660,670 delete"], dropped(GONE % 6600000, "660,670 delete")),
+    Row("one that is joined with the one before it", "B4", LAST_BROKEN, ["650,651 join"], dropped(GONE % 6510000, "650,651 join")),
+    Row("the one before a pulse that is lost, and the one after it", "B4", LAST_BROKEN, ["642 delete", "642 delete"],
+        ["642 delete", "642 delete"]),
+    Row("the last pulse", "B4", LAST_BROKEN, ["$ delete"], ["$ delete"]),
+    Row("one that rises a tenth of an interval later, and a microsecond more", "B4", LAST_BROKEN, ["650 shift 1000", "650 shift 1"],
+        ["650 shift 1000", *dropped(GONE % 6500000, "650 shift 1")]),
+    Row("one that rises a tenth of an interval earlier, and a microsecond more", "B4", LAST_BROKEN, ["650 shift -1000", "650 shift -1"],
+        ["650 shift -1000", *dropped(GONE % 6500000, "650 shift -1")]),
+    Row("one that goes, and another in its place", "B4", LAST_BROKEN, ["begin", "650 delete", "insert 6499500 6501000", "end"],
+        ["begin", "650 delete", "insert 6499500 6501000", "end"]),
+    Row("pulses in step, turned over", "B4", LAST_BROKEN, ["invert 6449000 6559000"], ["invert 6449000 6559000"]),
+    Row("pulses that are not in step: eleven tenths of an interval, and a microsecond more", "B4",
+        moved(LAST_BROKEN, lambda at: at + 1001 * (at >= 6500000)), ["649 delete", "649 delete"], ["649 delete", "649 delete"]),
+    Row("pulses that are still in step: eleven tenths of an interval", "B4", moved(LAST_BROKEN, lambda at: at + 1000 * (at >= 6500000)),
+        ["649 delete", "650 delete"], each_dropped(GONE % 6490000, "649 delete") + each_dropped(GONE % 6501000, "650 delete")),
+    Row("pulses in step, if frames may move", "B4", LAST_BROKEN, ["650 delete"], ["650 delete"], moved=True),
+    Row("a pulse in step of a broken frame between fine ones", "B4", WITHOUT_ZERO, ["260 delete"], dropped(GONE % 2600000, "260 delete")),
+    Row("a pulse in step of format A", "A0", HUNDREDTHS_BROKEN, ["650 delete"], dropped(GONE % 650000, "650 delete")),
     # control functions
     Row("a control function that was lost, and that the nearest frames do not have", "B4", without(SOUND, 363),
         ["insert 3620000 3625000"], ["insert 3620000 3625000"], filled=1),
@@ -551,7 +582,7 @@ ROWS = (
         [MEND, *unsafe("138 12:34:53", 2000000, LOST, "begin", "regen 2000000 1 " + THIRD, "343 delete", "end")], True),
     # no fine frame
     Row("two frames alone", "B4", TURNED[:299], ["invert 0 3000000"],
-        [NOTHING_FINE, *dropped("fine frames would not support each other", "invert 0 3000000")]),
+        [NOTHING_FINE, *dropped("fine frames would not support each other", "invert 0 3000000")], judged=False),
     # the first fault in the order of the rises
     Row("two frames are lost", "B4", SOUND, ["begin", "543 delete", "343 delete", "end"],
         unsafe("138 12:34:53", 3000000, LOST, "begin", "543 delete", "343 delete", "end")),

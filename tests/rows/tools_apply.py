@@ -381,6 +381,24 @@ def guarded():
     return in_folder(lambda: list(holds()), rec=damages.dump(recorded(glitch), END))
 
 
+def unjudged():
+    """If no frame is fine, the guard writes nothing: then the recording is written as it is, and why is printed."""
+    def holds():
+        editor = os.path.abspath(os.environ["IRIG_ED"])
+        os.symlink(editor, "irig_ed")
+        with open("irig_guard", "w", encoding="ascii") as file:
+            file.write('#!/bin/sh\necho "# nothing to go by: no frame of the recording is fine"\n'
+                       'sed "/^#/!s/^/# not kept: no frame would be fine to go by\\n# /"; exit 1\n')
+        os.chmod("irig_guard", 0o755)
+        with mock.patch.dict(os.environ, IRIG_ED=os.path.abspath("irig_ed")):
+            got, said, _ = run("irig_mend", ["--expression=4", "--apply", "new.vcd", "rec.vcd"])
+        subprocess.run([editor, "--expression=4", "--out", "as_it_is.vcd", "rec.vcd"], input=b"write\n", stdout=subprocess.PIPE, check=True)
+        yield same("nothing to go by", (got, b"not kept: no frame would be fine to go by" in said), (1, True))
+        yield same("it is written as it is", text_of("new.vcd"), text_of("as_it_is.vcd"))
+
+    return in_folder(lambda: list(holds()), rec=damages.dump(recorded(glitch), END))
+
+
 def listings():
     """The editor lists the pulses twice, however long the recording is: before the repair, and after it. The proposal's looks are the first
     and the last one."""
@@ -662,4 +680,4 @@ def cases(top):
     return [*(case("apply: " + row[0], applied, *row) for row in APPLIED),
             *(case("apply: " + part.__name__, part)
               for part in (into, not_read, options_of_a_script, late_times, saved, page_alone, one_line, cut, growing, upside_down, steady,
-                           guarded, listings, outside, named, places_that_became, guesses, filled, refused, objects, ends, kinds))]
+                           guarded, unjudged, listings, outside, named, places_that_became, guesses, filled, refused, objects, ends, kinds))]

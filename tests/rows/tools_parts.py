@@ -864,7 +864,8 @@ def of_guard():
     """The tools know each text that irig_guard can say, and no other, and read each reason of its worked rows."""
     words, texts = guard_words, literals("irig_guarding/src/reason_text.rt")
     refusals = [text for text in texts if re.fullmatch("E[0-9]+ .*", text)]
-    known = [words.NOT_KEPT, *words.OF_A_FRAME, words.UNSUPPORTED, *words.OF_NO_FRAME, words.REFUSED_BY_EDITOR]
+    of_none = [words.UNSUPPORTED, words.UNJUDGED, *words.OF_NO_FRAME, *words.GONE, words.REFUSED_BY_EDITOR]
+    known = [words.NOT_KEPT, *words.OF_A_FRAME, *of_none]
     yield same("each reason", sorted(set(texts) - set(refusals)), sorted(known))
     yield same("each refusal", [words.guard_reason(words.NOT_KEPT + words.REFUSED_BY_EDITOR + each) for each in refusals],
                [words.Reason("not kept: refused: " + each) for each in refusals])
@@ -873,8 +874,9 @@ def of_guard():
     yield same("frames that were filled", said in "".join(literals("irig_guard/src/statuses.rt")), True)
     lines = [line for row in guard.ROWS for line in row.wanted if line not in row.script and line.startswith(words.NOT_KEPT)]
     yield same("when the frames begin", [words.guard_reason(line).begin for line in lines],
-               [int(line.split(" at ")[1].split()[0].strip(":")) if " at " in line else None for line in lines])
-    yield same("of all frames", {words.guard_reason(line).is_of_all for line in lines if words.UNSUPPORTED in line}, {True})
+               [int(line.split(" at ")[1].split()[0].strip(":")) if "frame " in line and " at " in line else None for line in lines])
+    of_all = [line for line in lines if words.guard_reason(line).is_of_all]
+    yield same("of all frames", of_all, [line for line in lines if words.UNSUPPORTED in line or words.UNJUDGED in line])
     yield same("a line of the script", words.guard_reason("# 702 force zero"), None)
     counts = [words.filled_frames("irig_guard: a: b.vcd: " + words.filled_text(many)) for many in (1, 12)]
     yield same("how many were filled", (counts, words.filled_frames("")), ([1, 12], 0))

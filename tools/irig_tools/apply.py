@@ -207,10 +207,17 @@ def run_guarded(command: List[str], path: str, script: Sequence[Repair], out: st
 def _run_guard(command: List[str], path: str, script: Sequence[Repair], out: str) -> Refused:
     lines = lines_of_all(script)
     printed, said = _run(command, path, lines, out)
+    if not os.path.exists(out):
+        _run([find_editor(), *_options_of_editor(command[1:])], path, ["save" if "--save" in command else "write"], out)
     reasons = [_reason(command[0], line) for line in printed]
     is_counted = "--moved" not in command and NOTHING_FINE not in printed
     return Refused(_refused_by_guard(lines, printed, reasons), [each for each in reasons if each], printed,
                    filled_frames(said) if is_counted else None)
+
+
+def _options_of_editor(words: Sequence[str]) -> List[str]:
+    """Those of some options of irig_guard that the editor has, too."""
+    return [word for word, before in zip(words, ["", *words]) if word not in ("--moved", "--save", "--with") and before != "--with"]
 
 
 def _reason(program: str, line: str) -> Optional[Reason]:
@@ -235,16 +242,17 @@ def lines_of_all(script: Sequence[Repair]) -> List[str]:
 
 
 def _run(command: List[str], path: str, lines: Sequence[str], out: str) -> Tuple[List[str], str]:
-    """The lines that a program prints that runs a script on a track and writes a file, and what it says on the standard error."""
+    """The lines that a program prints that runs a script on a track and writes a file, and what it says on the standard error. If no
+    frame is fine, irig_guard writes none."""
     with temporary_script("".join(line + "\n" for line in lines)) as script:
         try:
             done = subprocess.run([*command, "--out", out, path], stdin=script, capture_output=True, check=False)
         except OSError as error:
             raise Problem("%s cannot be run: %s" % (command[0], error.strerror)) from error
-    said = done.stderr.decode(errors="replace").strip()
-    if done.returncode not in (0, 1) or not os.path.exists(out):
+    printed, said = done.stdout.decode(errors="replace").splitlines(), done.stderr.decode(errors="replace").strip()
+    if done.returncode not in (0, 1) or not (os.path.exists(out) or NOTHING_FINE in printed):
         raise Problem("%s (it writes %s)" % (said or "%s ended with status %d" % (command[0], done.returncode), out))
-    return done.stdout.decode(errors="replace").splitlines(), said
+    return printed, said
 
 
 def _refused_by_guard(lines: Sequence[str], kept: Sequence[str], reasons: Sequence[Optional[Reason]]) -> int:

@@ -15,11 +15,14 @@ NO_CONTROLS = " would have control functions that are not supported"
 OF_A_FRAME = (" would be lost", " would change", " would have a time that is not supported", NO_CONTROLS, ": its pulses would move",
               ": its pulses would rise where nothing supports it")
 UNSUPPORTED = "fine frames would not support each other"  # no frame was fine, so it is of all frames
+UNJUDGED = "no frame would be fine to go by"  # the same
 OF_NO_FRAME = ("not a repair", "memory ran out")
+GONE = ("the pulse at ", " is in step, and would be gone")  # between them when it rises
 REFUSED_BY_EDITOR = "refused: "  # and then number and name of the refusal
 FILLED = "control functions of %s %s are not in the recording"  # how many, and `frame` or `frames`
 
 FRAME_AT_FAULT = re.compile("frame [0-9]+ [0-9:.]+ at ([0-9]+)(?:%s)" % "|".join(map(re.escape, OF_A_FRAME)))
+PULSE_AT_FAULT = re.compile("[0-9]+".join(GONE))
 REFUSAL = re.compile(REFUSED_BY_EDITOR + "E[0-9]+ [A-Za-z]+")
 FILLED_LINE = re.compile(".*: " + FILLED % ("([0-9]+)", "frames?"), re.S)
 
@@ -40,9 +43,10 @@ def guard_reason(line: str) -> Optional[Reason]:
         return None
     said = line[len(NOT_KEPT):]
     fault = FRAME_AT_FAULT.fullmatch(said)
-    if not fault and said != UNSUPPORTED and said not in OF_NO_FRAME and not REFUSAL.fullmatch(said):
+    is_of_all = said in (UNSUPPORTED, UNJUDGED)
+    if not (fault or is_of_all or said in OF_NO_FRAME or PULSE_AT_FAULT.fullmatch(said) or REFUSAL.fullmatch(said)):
         raise ValueError(line)
-    return Reason(line[2:], int(fault[1]) if fault else None, said == UNSUPPORTED)
+    return Reason(line[2:], int(fault[1]) if fault else None, is_of_all)
 
 
 def filled_frames(said: str) -> int:

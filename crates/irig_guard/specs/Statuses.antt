@@ -1,5 +1,5 @@
 -- The statuses of the program as a process. This project's own.
-use Rattle.std.specs.Prelude.{ℕ, List, Option, Result, Ok, Err, codes}
+use Rattle.std.specs.Prelude.{ℕ, Bool, true, false, List, Option, Result, Ok, Err, codes}
 use Rattle.irig_words.specs.Telling.{EndsWith, Explains}
 use Rattle.irig_files.specs.declared.dump_file.DumpFileFault.{DumpFileFault}
 use Rattle.irig_files.specs.declared.dump_file.DumpFileFault.TheVariants.{CannotBeRead, TooLong}
@@ -12,15 +12,17 @@ use Rattle.irig_script.specs.declared.obey.status.Status.TheVariants.{AllAccepte
 use Rattle.irig_guarding.specs.{declared.product.GuardFault.GuardFault, declared.product.Kept.Kept}
 use Rattle.irig_guarding.specs.declared.product.GuardFault.TheVariants.{Dump}
 
--- the status of a run that came to its end
-abbrev pub kept_number : Status → ℕ
-kept_number AllAccepted = 0
-kept_number SomeRefused = 1
+-- the status of a run that came to its end: 0 if all repairs were kept, and there was a frame to go
+-- by
+abbrev pub kept_number : Bool → Status → ℕ
+kept_number true AllAccepted = 0
+kept_number true SomeRefused = 1
+kept_number false status = 1
 
--- the status of the program for how a run ended: 0 if each line was kept, 1 if some were not, 3 if
+-- the status of the program for how a run ended: 0 if each line was kept, 1 if not, 3 if
 -- the track was not read, 4 if the run was broken off
 abbrev pub status_number : Result Kept GuardFault → ℕ
-status_number (Ok kept) = kept_number kept.status
+status_number (Ok kept) = kept_number kept.judged kept.status
 status_number (Err (Dump fault)) = 3
 status_number (Err _) = 4
 

@@ -1,8 +1,8 @@
-//! A guard for repairs of a recorded time track: keeps those that give no frame a wrong time. The
-//! status is the number with which the program ends: 0 if all repairs were kept, 1 if some were
-//! not, 2 for a mistake in the command line, 3 for a dump that cannot be used, and 4 if the run was
-//! broken off, or the system does not say where a path leads. Help that was asked for ends with 0,
-//! or with 4 if it cannot be printed.
+//! A guard for repairs of a recorded time track: keeps those that give no frame a time that nothing
+//! supports. The status is the number with which the program ends: 0 if all repairs were kept, 1 if
+//! some were not, or no frame was fine, 2 for a mistake in the command line, 3 for a dump that
+//! cannot be used, and 4 if the run was broken off, or the system does not say where a path leads.
+//! Help that was asked for ends with 0, or with 4 if it cannot be printed.
 //!
 //! In a contract, `files` is what is known of the disk before and after, and `ends` what is known
 //! of the output, the writes and the script. Of a file system `C`, `held` is what each file holds,

@@ -1,10 +1,10 @@
-//! The statuses of the program as a process, and what it says of faults. 0 is that all repairs were
-//! kept, 1 that some were not, 2 a mistake in the command line, 3 a dump that cannot be used, and 4
-//! that the run was broken off, or that the system does not say where a path leads. `tell` and
-//! `tell_of` print a fault on the standard error, the latter with a path, and return the status
-//! that they get. `explain` prints the help with status 0, or with 2 what is wrong with the words;
-//! the status is 4 if the help cannot be printed. In a contract, `contents` is what came to an
-//! output, and `Reports` says what the output of help and the status are for an ending.
+//! The statuses of the program as a process, and what it says of faults. 0 is that all repairs
+//! were kept, 1 that some were not, 2 a mistake in the command line, 3 a dump that cannot be used,
+//! and 4 that the run was broken off, or that the system does not say where a path leads. `tell`
+//! and `tell_of` print a fault on the standard error, the latter with a path, and return the
+//! status that they get. `explain` prints the help with status 0, or with 2 what is wrong with the
+//! words; the status is 4 if the help cannot be printed. In a contract, `contents` is what came to
+//! an output, and `Reports` says what the output of help and the status are for an ending.
 
 ghost use Rattle.std.specs.Prelude.{◌≡◌};
 ghost use Rattle.std.specs.Process.{exit_status};
@@ -53,8 +53,8 @@ fn tell_over<R: Eprint>(rt: &R, path: &str) -> ExitCode
     ExitCode::from(2)
 }
 
-/// Says on the standard error why another recording, that at `path`, cannot be used: for a fault of
-/// its file, or of the dump in it. The status is 3.
+/// Says on the standard error why another recording, that at `path`, cannot be used: for a fault
+/// of its file, or of the dump in it. The status is 3.
 fn tell_unusable<R: Eprint>(rt: &R, path: &str, why: OtherFault) -> ExitCode
     ensures { exit_status result ≡ 3 }
 {
@@ -89,12 +89,18 @@ fn tell_ended<R: Eprint>(rt: &R, path: &str, outcome: Result<Kept, GuardFault>) 
     }
 }
 
-/// The exit status for a run that came to its end: 0 if all repairs were kept, else 1. Also says on
-/// the standard error how many frames have control functions that are not in the recording, if some
-/// have (`tell_filled`).
+/// The exit status for a run that came to its end: 0 if all repairs were kept, else 1, and 1 if
+/// there was no frame to go by, which is said on the standard error. Also says there how many
+/// frames have control functions that are not in the recording, if some have (`tell_filled`).
 fn tell_kept<R: Eprint>(rt: &R, path: &str, kept: Kept) -> ExitCode
-    ensures { exit_status result ≡ kept_number kept.status }
+    ensures { exit_status result ≡ kept_number kept.judged kept.status }
 {
+    if !kept.judged {
+        let _ = eprintln!(rt;
+            "irig_guard: {path}: no frame is fine, so nothing is kept, and nothing is written"
+        );
+        return ExitCode::from(1);
+    }
     tell_filled(rt, path, kept.filled);
     match kept.status {
         Status::AllAccepted => ExitCode::SUCCESS,
@@ -102,9 +108,9 @@ fn tell_kept<R: Eprint>(rt: &R, path: &str, kept: Kept) -> ExitCode
     }
 }
 
-/// Says on the standard error how many frames of the track at this path have control functions that
-/// are not in the recording (`filled`); nothing if none has. The status does not depend on it,
-/// since nothing says that they are wrong: so it does not matter if it cannot be printed.
+/// Says on the standard error how many frames of the track at this path have control functions
+/// that are not in the recording (`filled`); nothing if none has. The status does not depend on
+/// it, since nothing says that they are wrong: so it does not matter if it cannot be printed.
 fn tell_filled<R: Eprint>(rt: &R, path: &str, filled: usize) {
     let frames = if filled == 1 { "frame" } else { "frames" };
     if filled > 0 {

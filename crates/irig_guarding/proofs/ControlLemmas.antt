@@ -20,7 +20,7 @@ use Rattle.irig_safety.specs.declared.fault.Fault.TheVariants.{Lost, Unrecorded}
 use Rattle.irig_safety.specs.Terms.{TermsView}
 use Rattle.irig_safety.proofs.SafetyLemmas.{drop-item, drop_past, next_behind}
 use Rattle.irig_guarding.specs.Controls.{AreBorneBy, AreBorneFrom, ControlsAt, ControlsFrom, IsAs, IsBorne, IsUnborneBy, IsUnborneFrom, Judges}
-use Rattle.irig_guarding.specs.Stays.{HasFault, HasFaultAt, MayStay, StaysAt}
+use Rattle.irig_guarding.specs.Stays.{FinesStayAt, HasFault, HasFaultAt, HasFineFaultAt, MayStay, StaysAt}
 use Rattle.irig_guarding.specs.Standing.{StandBy, StrayBy}
 use Rattle.irig_guarding.specs.Reading.{fine_frames, original_of, seen_at, seen_by, seen_frames, shown_at, shown_by}
 use Rattle.irig_guarding.specs.declared.seen.Seen.{Seen}
@@ -245,7 +245,8 @@ judged_fault o s new (Err why) b is f e h =
 
 -- what is found of all that may stay
 pub stays_all : (o : OriginalView) (last : List Shown) (s : State) (now : List Shown) (r : Result Unit Fault) → now ≡ fine_frames s
-    → IsSafe s.format (others_of o) o.frames now → AreBorneBy o.frames o s → StandBy o.frames o s → OnOk r (NoneIsSpoiled last now) → OnOk r (StaysAt o last s)
+    → IsSafe s.format (others_of o) o.frames now → AreBorneBy o.frames o s → StandBy o.frames o s → OnOk r (NoneIsSpoiled last now)
+    → OnOk r (FinesStayAt o last s)
 stays_all o last s now (Ok u) e safe borne stand h = (
   (subst (λ (l : List Shown). IsSafe s.format (others_of o) o.frames l) e safe, borne, stand),
   subst (λ (l : List Shown). NoneIsSpoiled last l) e h,
@@ -253,13 +254,13 @@ stays_all o last s now (Ok u) e safe borne stand h = (
 stays_all o last s now (Err why) e safe borne stand h = tt
 
 pub spoiled_all : (o : OriginalView) (last : List Shown) (s : State) (now : List Shown) (r : Result Unit Fault) → now ≡ fine_frames s
-    → OnErr r (NoneIsSpoiled last now → ⊥) → OnErr r (StaysAt o last s → ⊥)
+    → OnErr r (NoneIsSpoiled last now → ⊥) → OnErr r (FinesStayAt o last s → ⊥)
 spoiled_all o last s now (Ok u) e h = tt
 spoiled_all o last s now (Err why) e h = λ k. h (subst (λ (l : List Shown). NoneIsSpoiled last l) (sym e) k.1)
 
 pub spoiled_fault : (o : OriginalView) (last : List Shown) (s : State) (now : List Shown) (r : Result Unit Fault) → now ≡ fine_frames s
     → IsSafe s.format (others_of o) o.frames now → AreBorneBy o.frames o s → StandBy o.frames o s → IfErr r (IsSpoiledBy last now)
-    → IfErr r (HasFaultAt o last s)
+    → IfErr r (HasFineFaultAt o last s)
 spoiled_fault o last s now (Ok u) e safe borne stand h = tt
 spoiled_fault o last s now (Err why) e safe borne stand h = inr (
   subst (λ (l : List Shown). IsSafe s.format (others_of o) o.frames l) e safe,
@@ -267,19 +268,19 @@ spoiled_fault o last s now (Err why) e safe borne stand h = inr (
 )
 
 pub unsafe_fault : (o : OriginalView) (last : List Shown) (s : State) (now : List Shown) (why : Fault) → now ≡ fine_frames s
-    → IsFault s.format (others_of o) o.frames now why → HasFaultAt o last s why
+    → IsFault s.format (others_of o) o.frames now why → HasFineFaultAt o last s why
 unsafe_fault o last s now why e h = inl (subst (λ (l : List Shown). IsFault s.format (others_of o) o.frames l why) e h)
 
 pub unsafe_so : (o : OriginalView) (last : List Shown) (s : State) (now : List Shown) → now ≡ fine_frames s → (IsSafe s.format (others_of o) o.frames now → ⊥)
-    → StaysAt o last s → ⊥
+    → FinesStayAt o last s → ⊥
 unsafe_so o last s now e h k = h (subst (λ (l : List Shown). IsSafe s.format (others_of o) o.frames l) (sym e) k.0.0)
 
 pub unborne_fault_of : (o : OriginalView) (last : List Shown) (s : State) (now : List Shown) (why : Fault) → now ≡ fine_frames s
-    → IsSafe s.format (others_of o) o.frames now → IsUnborneBy o.frames o s why → HasFaultAt o last s why
+    → IsSafe s.format (others_of o) o.frames now → IsUnborneBy o.frames o s why → HasFineFaultAt o last s why
 unborne_fault_of o last s now why e safe h = inr (subst (λ (l : List Shown). IsSafe s.format (others_of o) o.frames l) e safe, inl h)
 
 pub stray_fault_of : (o : OriginalView) (last : List Shown) (s : State) (now : List Shown) (why : Fault) → now ≡ fine_frames s
-    → IsSafe s.format (others_of o) o.frames now → AreBorneBy o.frames o s → StrayBy o.frames o s why → HasFaultAt o last s why
+    → IsSafe s.format (others_of o) o.frames now → AreBorneBy o.frames o s → StrayBy o.frames o s why → HasFineFaultAt o last s why
 stray_fault_of o last s now why e safe borne h = inr (subst (λ (l : List Shown). IsSafe s.format (others_of o) o.frames l) e safe, inr (borne, inl h))
 
 -- where the frames are, if they may move and if not

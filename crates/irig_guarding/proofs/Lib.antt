@@ -13,5 +13,6 @@ pub mod ReasonLemmas
 pub mod RepairLemmas
 pub mod RisingFrames
 pub mod RisingPulses
+pub mod StepsLemmas
 pub mod TrialLemmas
 pub mod UndoneLemmas

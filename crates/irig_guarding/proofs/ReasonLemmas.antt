@@ -13,7 +13,7 @@ use Rattle.irig_print.specs.{FrameLine.clock_text, FrameLine.hundredths_text, Fr
 use Rattle.irig_guarding.specs.{Guarded.IsRemark, Reasons.fault_text, Reasons.frame_text, Reasons.head_lines, Reasons.reason_line, Reasons.reason_text, Reasons.refusal_name}
 use Rattle.irig_guarding.specs.declared.reason.Reason.{Reason}
 use Rattle.irig_guarding.specs.declared.reason.Reason.TheVariants.{NoRepair, NotSafe, OutOfMemory, Refused}
-use Rattle.irig_safety.specs.declared.fault.Fault.TheVariants.{Alone, Changed, Lost, Misplaced, Moved, Unrecorded, Unsupported}
+use Rattle.irig_safety.specs.declared.fault.Fault.TheVariants.{Alone, Changed, Lost, Misplaced, Moved, Removed, Unjudged, Unrecorded, Unsupported}
 use Rattle.irig_safety.specs.{declared.fault.Fault.Fault, declared.shown.Shown.Shown}
 
 -- a front after a number sign is a remark
@@ -118,6 +118,12 @@ fits_fault (Misplaced x) = both 500 100 _ _ (fits_frame x) (record { plain = ref
 fits_fault (Moved x) = both 500 100 _ _ (fits_frame x) (record { plain = refl; few = omega arith })
 fits_fault (Unrecorded x) = both 500 100 _ _ (fits_frame x) (record { plain = refl; few = omega arith })
 fits_fault Alone = record { plain = refl; few = omega arith }
+fits_fault (Removed t) =
+    let front : Fits 100 (codes "the pulse at ") = record { plain = refl; few = omega arith } in
+    let back : Fits 100 (codes " is in step, and would be gone") = record { plain = refl; few = omega arith } in
+    let whole = both 100 164 _ _ front (both 64 100 _ _ (fits_number t) back) in
+    record { plain = whole.plain; few = omega (arith, whole.few) }
+fits_fault Unjudged = record { plain = refl; few = omega arith }
 
 fits_text : (reason : Reason) → Fits 800 (reason_text reason)
 fits_text NoRepair = record { plain = refl; few = omega arith }

@@ -1,5 +1,6 @@
 -- A run under guard, from the bytes of a dump and of a proposed script on. This project's own.
 use Rattle.std.specs.Prelude.{◌≡◌, ℕ, List, [], ◌∷◌, Option, Result, Ok, Err, IfSome}
+use Rattle.std.specs.Prelude.{if◌then◌else◌}
 use Rattle.std.specs.Io.KnownBytes.{Appends}
 use Rattle.irig_codes.specs.Format.{FormatView}
 use Rattle.irig_edit.specs.Opened.Openings.{IsOpened, IsUnopened}
@@ -14,7 +15,7 @@ use Rattle.irig_guarding.specs.declared.product.GuardFault.TheVariants.{Dump, Re
 use Rattle.irig_guarding.specs.declared.product.GuardFault.TheVariants.{OutOfMemory, PrintFailed}
 use Rattle.irig_guarding.specs.declared.product.GuardFault.TheVariants.{WriteFailed}
 use Rattle.irig_guarding.specs.{Fillings.Fills, Guarded.IsGuarded, Reading.original_of}
-use Rattle.irig_guarding.specs.{Trials.IsTried, declared.product.Kept.Kept}
+use Rattle.irig_guarding.specs.{Judged.is_judged_by, Trials.IsTried, declared.product.Kept.Kept}
 use Rattle.irig_guarding.specs.declared.product.Product.{Product}
 use Rattle.irig_guarding.specs.declared.product.Product.TheVariants as product
 
@@ -37,15 +38,16 @@ pub record Guards (terms : TermsView) (first : Machine) (script : Option (List �
   pub filled : ℕ
   pub fillings : Fills (original_of terms first.state) last.state filled
 
--- it was run, its result was printed, what is asked for was written, and the status says whether
--- all of it was kept; or memory ran out, or a read failed, and nothing was printed or written; or
--- the printing failed, and nothing was written; or the writing failed
+-- it was run, its result was printed, what is asked for was written if there was a frame to go by,
+-- and the status says whether all of it was kept; or memory ran out, or a read failed, and nothing
+-- was printed or written; or the printing failed, and nothing was written; or the writing failed
 abbrev pub RunsUnderGuard : TermsView → Product → Machine → Option (List ℕ) → Desk → Desk
     → Result Kept GuardFault → Type 0
 RunsUnderGuard terms asked first script from to (Ok kept) =
     (run : Guards terms first script) × (run.status ≡ kept.status) × (run.filled ≡ kept.filled)
+    × (kept.judged ≡ is_judged_by first.state run.last.state)
     × Appends from.out to.out run.printed
-    × Puts from.shelf to.shelf (product_texts asked run.last) 0
+    × Puts from.shelf to.shelf (if kept.judged then product_texts asked run.last else []) 0
 RunsUnderGuard terms asked first script from to (Err PrintFailed) =
     (run : Guards terms first script) × AppendsFront from.out to.out run.printed
     × (to.shelf ≡ from.shelf)

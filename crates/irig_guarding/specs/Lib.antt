@@ -4,6 +4,7 @@ pub mod Drops
 pub mod Fillings
 pub mod Guarded
 pub mod GuardedRun
+pub mod Judged
 pub mod Known
 pub mod Meaning
 pub mod Others
@@ -16,6 +17,7 @@ pub mod RepairLines
 pub mod SafeBy
 pub mod Standing
 pub mod Stays
+pub mod Steps
 pub mod Trial
 pub mod Trials
 pub mod Undone

@@ -8,7 +8,8 @@ use Rattle.irig_track.specs.Edges.{pulse}
 use Rattle.irig_index.specs.declared.record.Verdict.TheVariants.{Read}
 use Rattle.irig_index.specs.{declared.record.Record.Record, declared.record.Verdict.Verdict}
 use Rattle.irig_edit.specs.State.State.{State, frames_of}
-use Rattle.irig_safety.specs.{OddFunctions.odd_of, Original.OriginalView, Terms.TermsView}
+use Rattle.irig_safety.specs.{InStep.loose_of, OddFunctions.odd_of, Original.OriginalView}
+use Rattle.irig_safety.specs.{Terms.TermsView}
 use Rattle.irig_safety.specs.declared.{odd.Odd.Odd, shown.Shown.Shown}
 use Rattle.irig_guarding.specs.{declared.seen.Frames.Frames, declared.seen.Seen.Seen}
 
@@ -69,5 +70,6 @@ original_of terms s = record {
   markers = map (λ y. y.marker) (seen_frames s);
   pulses = s.pulses;
   odd = odd_functions s;
+  loose = loose_of terms.moved s.format s.pulses (map (λ y. y.marker) (seen_frames s));
   terms = terms;
 }

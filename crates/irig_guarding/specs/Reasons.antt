@@ -8,7 +8,7 @@ use Rattle.irig_guarding.specs.declared.reason.Reason.TheVariants.{NoRepair, Not
 use Rattle.irig_guarding.specs.declared.reason.Reason.TheVariants.{Refused}
 use Rattle.irig_safety.specs.declared.fault.Fault.{Fault}
 use Rattle.irig_safety.specs.declared.fault.Fault.TheVariants.{Alone, Changed, Lost, Misplaced, Moved}
-use Rattle.irig_safety.specs.declared.fault.Fault.TheVariants.{Unrecorded, Unsupported}
+use Rattle.irig_safety.specs.declared.fault.Fault.TheVariants.{Removed, Unjudged, Unrecorded, Unsupported}
 use Rattle.irig_safety.specs.declared.shown.Shown.{Shown}
 
 -- number and name of a refusal: what the editor answers, without the mark before them and the
@@ -31,6 +31,9 @@ fault_text (Moved x) = frame_text x ++ codes ": its pulses would move"
 fault_text (Misplaced x) =
     frame_text x ++ codes ": its pulses would rise where nothing supports it"
 fault_text Alone = codes "fine frames would not support each other"
+fault_text (Removed t) =
+    codes "the pulse at " ++ decimal t ++ codes " is in step, and would be gone"
+fault_text Unjudged = codes "no frame would be fine to go by"
 
 -- why a repair is not kept
 abbrev pub reason_text : Reason → List ℕ

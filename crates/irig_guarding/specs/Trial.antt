@@ -1,5 +1,5 @@
 -- A repair that is tried is kept, or it is dropped and undone. This project's own.
-use Rattle.std.specs.Prelude.{◌≡◌, ℕ, List, [], ◌∷◌, Option, Some, None}
+use Rattle.std.specs.Prelude.{◌≡◌, ◌⊎◌, ℕ, List, [], ◌∷◌, Option, Some, None}
 use Rattle.std.specs.List.{flat_map}
 use Rattle.irig_script.specs.{Obey.Machine.Machine}
 use Rattle.irig_guarding.specs.{Repair.ObeyedAll, Undone.IsUndone}
@@ -7,15 +7,15 @@ use Rattle.irig_guarding.specs.Reading.{fine_frames}
 use Rattle.irig_guarding.specs.declared.reason.Reason.{Reason}
 use Rattle.irig_safety.specs.{Original.OriginalView}
 use Rattle.irig_guarding.specs.Drops.{Drops}
-use Rattle.irig_guarding.specs.Stays.{MayStay}
+use Rattle.irig_guarding.specs.{RepairLines.IsIdle, Stays.MayStay}
 
--- a repair that is kept: its lines are obeyed, and what they lead to may stay
+-- a repair that is kept: its lines are obeyed; it is a comment, or what they lead to may stay
 pub record Keeps (opened : OriginalView) (old : Machine) (lines : List (List ℕ))
     (new : Machine) : Type
     0
   where
     pub obeyed : ObeyedAll old lines new
-    pub stays : MayStay opened (fine_frames old.state) new.state
+    pub stays : IsIdle lines ⊎ MayStay opened (fine_frames old.state) new.state
 
 -- a repair is tried: it is kept, or it is dropped and undone
 abbrev pub Tries : OriginalView → Machine → List (List ℕ) → Option Reason → Machine → Type 0

@@ -4,15 +4,16 @@
 //! support what that one says. A repair that is accepted and safe is kept, any other is dropped.
 //! `opened` is what is known of the recording. `last` is the frames that read well after the last
 //! repair that was kept, at first those of the recording; `Frames` has them twice, with their
-//! markers (`seen`) and without (`shown`). `known_markers` has for each frame of the recording that
-//! read well the marker at which its pulses are known to rise as they did, so that they are not
-//! compared again. `Err` means in each function that memory ran out. `floor ≡ None` in a contract:
-//! no group is open.
+//! markers (`seen`) and without (`shown`). `known_markers` has for each frame of the recording
+//! that read well the marker at which its pulses are known to rise as they did, so that they are
+//! not compared again. `Err` means in each function that memory ran out. `floor ≡ None` in a
+//! contract: no group is open.
 
 ghost use Rattle.std.specs.Prelude.{◌≡◌, [], IfOk, None, OnOk, is_none, if◌then◌else◌};
 ghost use Rattle.irig_guarding.specs.Guarded.{IsGuarded, IsSafeAfter, Reaches};
 ghost use Rattle.irig_guarding.specs.{Trials.IsTried, Trials.IsTriedBefore, Printed.Shows};
 ghost use Rattle.irig_guarding.specs.{Trial.Tries, SafeBy.IsSafeBy, Fillings.Fills, Known.AreKnown};
+ghost use Rattle.irig_guarding.specs.Judged.{is_judged_by};
 ghost use Rattle.irig_guarding.specs.Reading.{Lists, original_of};
 ghost use Rattle.irig_guarding.specs.{Reasons.head_lines, Repair.texts};
 ghost use Rattle.irig_script.specs.Obey.Run.{unlines};
@@ -21,6 +22,7 @@ ghost use Rattle.irig_script.specs.declared.obey.status.Status.TheVariants.{Some
 use crate::commands::is_lone_comment;
 use crate::cutting::repair_end;
 use crate::fillings::count_filled;
+use crate::judging::is_judged;
 use crate::known::{learn_markers, nothing_known};
 use crate::line::Line;
 use crate::lines::lines_of;
@@ -36,12 +38,13 @@ use irig_script::Status;
 use std::alloc::{AllocError, Global};
 
 /// Runs a proposed script on a session repair by repair; no group is open in it. A repair that is
-/// kept is printed as it is, and so are comments. One that is dropped is printed as comments, after
-/// the reason. If no frame of the recording reads well, a comment says so first (`put_head`).
-/// `terms` are frames of other recordings, which can support a frame, too, and whether frames may
-/// move. Returns what is printed, whether all was kept, and how many frames have a control function
-/// then that is not in the recording (`count_filled`: 0 if frames may move, or none of the
-/// recording reads well).
+/// kept is printed as it is, and so are comments. One that is dropped is printed as comments,
+/// after the reason. If no frame of the recording reads well, a comment says so first
+/// (`put_head`). `terms` are frames of other recordings, which can support a frame, too, and
+/// whether frames may move. Returns what is printed, whether all was kept, and how many frames
+/// have a control function then that is not in the recording (`count_filled`: 0 if frames may
+/// move, or none of the recording reads well), and whether there is a frame to go by
+/// (`is_judged`).
 pub fn guard(
     alloc: Global,
     session: &mut Session,
@@ -54,6 +57,8 @@ pub fn guard(
         done.1.status session.new) }
     ensures filled { IfOk result (λ done. Fills (original_of terms session.old.state)
         session.new.state done.1.filled) }
+    ensures judged { IfOk result (λ done. done.1.judged
+        ≡ is_judged_by session.old.state session.new.state) }
 {
     let opened = original_of(alloc, session, terms)?;
     let lines = lines_of(alloc, script)?;
@@ -73,7 +78,13 @@ pub fn guard(
         &mut out,
     )?;
     let filled = count_filled(session, &opened, last.seen.as_slice());
-    Ok((out, Kept { status, filled }))
+    let judged = is_judged(opened.frames(), last.shown.as_slice());
+    let kept = Kept {
+        status,
+        filled,
+        judged,
+    };
+    Ok((out, kept))
 }
 
 /// Runs lines on a session repair by repair, and prints each one to `out` (`guard_repair`). Before

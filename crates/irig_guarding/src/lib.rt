@@ -7,6 +7,7 @@ mod controls;
 mod cutting;
 mod elements;
 mod fillings;
+mod fines;
 mod frame_text;
 mod guarding;
 mod holding;
@@ -29,6 +30,7 @@ mod reason;
 mod reason_text;
 mod run;
 mod seen;
+mod steps;
 
 pub use law::{printed_scripts_are_obeyed, safe_states_are_kept_or_borne_out};
 pub use others::add_frames;

@@ -11,12 +11,13 @@ use crate::odd::odd_among;
 use crate::reading::fine_frames;
 use crate::seen::{Seen, seen_frames};
 use irig_edit::{Pulse, Session};
-use irig_safety::{Original, Terms};
+use irig_safety::{Original, Terms, loose_of};
 use std::alloc::{AllocError, Global};
 
 /// What is known of a recording by the session that was opened on it, before any repair. That is
-/// its frames that read well, their markers, all pulses, and the control functions whose pulses are
-/// not as wide as others in their frame (`odd_among`). `terms` are by what else repairs are judged:
+/// its frames that read well, their markers, all pulses, the control functions whose pulses are not
+/// as wide as others in their frame (`odd_among`), and the pulses that are in step and in none of
+/// these frames (`loose_of`). `terms` are by what else repairs are judged:
 /// frames of other recordings, and whether frames may move.
 pub fn original_of(alloc: Global, session: &Session, terms: Terms) -> Result<Original, AllocError>
     ensures { IfOk result (λ opened. opened ≡ original_of terms session.now.state) }
@@ -27,7 +28,14 @@ pub fn original_of(alloc: Global, session: &Session, terms: Terms) -> Result<Ori
     let pulses = pulses_of(alloc, session)?;
     let format = session.current_format();
     let odd = odd_among(alloc, format, pulses.as_slice(), seen.as_slice())?;
-    Ok(Original::new(frames, markers, pulses, odd, terms))
+    let loose = loose_of(
+        alloc,
+        terms.moved,
+        format,
+        pulses.as_slice(),
+        markers.as_slice(),
+    )?;
+    Ok(Original::new(frames, markers, pulses, odd, loose, terms))
 }
 
 /// The markers of frames, in the order of the frames: the place of the first pulse of each among

@@ -15,12 +15,14 @@ pub enum Product {
     Session,
 }
 
-/// How a run under guard ended: whether each repair was kept, and how many frames have a control
-/// function then that is not in the recording.
+/// How a run under guard ended: whether each repair was kept, how many frames have a control
+/// function then that is not in the recording, and whether there was a frame to go by: one of the
+/// recording read well, or one does then. If not, nothing was kept, and nothing is written.
 #[derive(Clone, Copy)]
 pub struct Kept {
     pub status: Status,
     pub filled: usize,
+    pub judged: bool,
 }
 
 /// Why a run under guard did not come to its end.

@@ -8,6 +8,7 @@ ghost use Rattle.irig_guarding.specs.Reasons.{reason_text, refusal_name};
 use crate::frame_text::put_frame;
 use crate::reason::Reason;
 use irig_edit::Refusal;
+use irig_print::Row;
 use irig_safety::{Fault, Shown};
 use std::alloc::AllocError;
 
@@ -35,7 +36,7 @@ fn put_text(out: &mut Vec<u8>, reason: Reason) -> Result<(), AllocError>
 }
 
 /// Prints why the frames would not be safe: the frame that is at fault, and what would become of
-/// it. `Alone` has no frame.
+/// it. `Alone`, `Removed` and `Unjudged` have no frame.
 fn put_fault(out: &mut Vec<u8>, fault: Fault) -> Result<(), AllocError>
     ensures { OnOk result (out.new.items ≡ out.old.items ++ fault_text fault) }
 {
@@ -57,6 +58,8 @@ fn put_fault(out: &mut Vec<u8>, fault: Fault) -> Result<(), AllocError>
             b": its pulses would rise where nothing supports it",
         ),
         Fault::Alone => out.extend_from_slice(b"fine frames would not support each other"),
+        Fault::Removed(rise) => put_removed(out, rise),
+        Fault::Unjudged => out.extend_from_slice(b"no frame would be fine to go by"),
     }
 }
 
@@ -67,6 +70,17 @@ fn put_what(out: &mut Vec<u8>, frame: &Shown, what: &[u8]) -> Result<(), AllocEr
 {
     put_frame(out, frame)?;
     out.extend_from_slice(what)
+}
+
+/// Prints that the recorded pulse that rose at this microsecond is in step, and would be gone.
+fn put_removed(out: &mut Vec<u8>, rise: u64) -> Result<(), AllocError>
+    ensures { OnOk result (out.new.items ≡ out.old.items ++ fault_text (Fault.Removed rise)) }
+{
+    let mut row = Row::new();
+    row.put(b"the pulse at ");
+    row.put_number(rise);
+    row.put(b" is in step, and would be gone");
+    out.extend_from_slice(row.text())
 }
 
 /// Prints that the editor refuses a line: `refused: `, and the number and the name of its refusal.

@@ -9,7 +9,7 @@
 //! functions that are not in the recording. `floor ≡ None` in a contract: no group is open.
 
 ghost use Rattle.std.specs.Prelude.{◌≡◌, ◌≤◌, ◌^◌, ℕ, Err, List, None, Option, length, Ok};
-ghost use Rattle.std.specs.Prelude.{IfSome, OnErr, OnOk, [], ◌∷◌};
+ghost use Rattle.std.specs.Prelude.{IfSome, OnErr, OnOk, [], ◌∷◌, if◌then◌else◌};
 ghost use Rattle.irig_edit.specs.Opened.Openings.{MayBeShort};
 ghost use Rattle.irig_vcd.specs.{Answer.bytes_of, Parts.dump_parts};
 ghost use Rattle.irig_vcd.specs.declared.fault.VcdFault.TheVariants.{OutOfMemory};
@@ -65,7 +65,8 @@ pub fn guard_on_parts<R: Read, W: Write, S: Shelf>(
 }
 
 /// Runs a proposed script on a session under guard, prints the script that is accepted to `out`,
-/// and writes what `product` asks for to the shelf. Returns how the run ended (`Kept`). The first
+/// and writes what `product` asks for to the shelf, but nothing if there was no frame to go by.
+/// Returns how the run ended (`Kept`). The first
 /// step that fails ends it: `ReadFailed` for the script, `OutOfMemory` for the run, `PrintFailed`
 /// for `out`, of which a part can be printed then, and `WriteFailed` for the shelf. The error of a
 /// call says no more, so it is dropped.
@@ -96,9 +97,30 @@ pub fn guard_session<R: Read, W: Write, S: Shelf>(
     let Ok(()) = put_all(out, printed.as_slice()) else {
         return Err(GuardFault::PrintFailed);
     };
-    match write_product(session, product, shelf) {
+    match write_if_judged(session, kept.judged, product, shelf) {
         Ok(()) => Ok(kept),
         Err(_) => Err(GuardFault::WriteFailed),
+    }
+}
+
+/// Writes what `product` asks for (`write_product`) if there was a frame to go by. If not, nothing
+/// is written.
+fn write_if_judged<S: Shelf>(
+    session: &Session,
+    judged: bool,
+    product: Product,
+    shelf: &mut S,
+) -> Result<(), ShelfFault>
+    ensures ok { OnOk result (Puts (S.known shelf.old) (S.known shelf.new)
+        (if judged then product_texts product session.now else []) 0) }
+    ensures err { OnErr result (Puts (S.known shelf.old) (S.known shelf.new) [] 1) }
+    ensures since { S.since shelf.old shelf.new }
+    ensures nothing { product ≡ Product.Nothing → shelf.new ≡ shelf.old }
+{
+    if judged {
+        write_product(session, product, shelf)
+    } else {
+        Ok(())
     }
 }
 

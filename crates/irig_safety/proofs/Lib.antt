@@ -7,6 +7,7 @@ pub mod OddLemmas
 pub mod OtherLemmas
 pub mod RecordedLemmas
 pub mod RiseLemmas
+pub mod StepLemmas
 pub mod WidthLemmas
 pub mod WorkedParity
 pub mod WorkedValues

@@ -7,6 +7,7 @@ pub mod Curves
 pub mod Faults
 pub mod Functions
 pub mod Heard
+pub mod InStep
 pub mod Lines
 pub mod Meaning
 pub mod Mended

@@ -9,12 +9,14 @@ use Rattle.irig_safety.specs.declared.{odd.Odd.Odd, shown.Shown.Shown}
 use Rattle.irig_safety.specs.declared.witnesses.Witnesses.{Witnesses}
 
 -- the frames that read well, the places of their markers among the pulses, all pulses, the control
--- functions whose pulses are odd, and by what repairs are judged besides
+-- functions whose pulses are odd, the rises of the loose pulses, and by what repairs are judged
+-- besides
 pub record OriginalView : Type 0 where
   pub frames : List Shown
   pub markers : List ℕ
   pub pulses : List Pulse
   pub odd : List Odd
+  pub loose : List ℕ
   pub terms : TermsView
 
 -- the same with its frames at other places

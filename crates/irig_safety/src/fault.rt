@@ -26,4 +26,9 @@ pub enum Fault {
     /// None read well, and those that do now do not bear each other out: they are fewer than three,
     /// or their times do not lead from one to the next.
     Alone,
+    /// The recorded pulse that rose at this microsecond was in step and in no frame that read well,
+    /// and no pulse is in its place now.
+    Removed(u64),
+    /// None read well, and none does now: there is nothing to judge by.
+    Unjudged,
 }

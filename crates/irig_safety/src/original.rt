@@ -23,9 +23,10 @@ use std::marker::Model;
 
 /// What is known of a recording as it was opened: the frames that read well, with nothing wrong in
 /// them, the places of their markers, from 0, and all pulses, each of which rises and falls no
-/// earlier than the one before it. And by what else repairs are judged: whether frames may move and
-/// frames of other recordings (`Terms`), and the control functions whose pulses are odd (`odd`):
-/// not as wide as the others of their class in their frame.
+/// earlier than the one before it. And by what else repairs are judged: whether frames may move
+/// and frames of other recordings (`Terms`), the control functions whose pulses are odd (`odd`):
+/// not as wide as the others of their class in their frame, and the rises of the loose pulses
+/// (`loose`): in step, and in no frame that read well.
 #[derive(Drop)]
 pub struct Original {
     frames: Vec<Shown>,
@@ -33,6 +34,7 @@ pub struct Original {
     pulses: Vec<Pulse>,
     moved: bool,
     others: Others,
+    loose: Vec<u64>,
 }
 
 impl Model for Original {
@@ -46,6 +48,7 @@ impl Model for Original {
       markers = o.markers.items;
       pulses = o.pulses.items;
       odd = o.others.odd;
+      loose = o.loose.items;
       terms = record { moved = o.moved; others = o.others.frames; even = o.others.even };
     } };
 
@@ -55,13 +58,15 @@ impl Model for Original {
 
 impl Original {
     /// A recording with these frames and pulses, the control functions whose pulses are odd
-    /// (`odd`), and these terms. `markers` has the marker of each of `frames`, at the same place.
-    /// Pulses have to rise in order, and to fall in order: the searches need both.
+    /// (`odd`), these loose pulses and these terms. `markers` has the marker of each of `frames`,
+    /// at the same place. Pulses have to rise in order, and to fall in order: the searches need
+    /// both.
     pub fn new(
         frames: Vec<Shown>,
         markers: Vec<usize>,
         pulses: Vec<Pulse>,
         odd: Vec<Odd>,
+        loose: Vec<u64>,
         terms: Terms,
     ) -> Original
         requires rising { IsNonDecreasingBy (λ (p : SomePulse). p.rise) pulses.items }
@@ -70,6 +75,7 @@ impl Original {
         ensures markers { result.markers ≡ markers.items }
         ensures pulses { result.pulses ≡ pulses.items }
         ensures odd { result.odd ≡ odd.items }
+        ensures loose { result.loose ≡ loose.items }
         ensures terms { result.terms ≡ terms }
     {
         Original {
@@ -82,6 +88,7 @@ impl Original {
                 even: terms.even,
                 odd,
             },
+            loose,
         }
     }
 
@@ -102,8 +109,8 @@ impl Original {
         is_told(self.others.frames.as_slice(), frame, function)
     }
 
-    /// What is known of control functions besides the frames of the recording: what frames of other
-    /// recordings of the same code have, and which pulses of this one are odd.
+    /// What is known of control functions besides the frames of the recording: what frames of
+    /// other recordings of the same code have, and which pulses of this one are odd.
     pub fn others(&self) -> &Others
         ensures { result.now ≡ others_of self.now }
     {
@@ -134,6 +141,13 @@ impl Original {
         self.pulses.as_slice()
     }
 
+    /// The rises of the loose pulses, in microseconds, in rising order.
+    pub fn loose(&self) -> &[u64]
+        ensures { result.now ≡ self.now.loose }
+    {
+        self.loose.as_slice()
+    }
+
     /// When the pulse of an element, from 0, of the frame with this marker rises, in microseconds;
     /// 0 if there is no such pulse. The test subtracts, as the sum of marker and element could be
     /// too large for its type.
@@ -150,10 +164,10 @@ impl Original {
 
     /// Whether `pulse` is an anchor: its place was recorded, so other places are measured from it.
     /// False for `None`. There are two kinds. One rises when a pulse of the recording does; its
-    /// fall does not matter. The other rises when one falls and falls when one rises, as a gap does
-    /// that became a pulse when the recording was turned over. `place`, from 0, is the pulse of the
-    /// recording that is looked at first, to save a search. It becomes the next one to look at: the
-    /// answer does not depend on it.
+    /// fall does not matter. The other rises when one falls and falls when one rises, as a gap
+    /// does that became a pulse when the recording was turned over. `place`, from 0, is the pulse
+    /// of the recording that is looked at first, to save a search. It becomes the next one to look
+    /// at: the answer does not depend on it.
     pub fn holds(&self, pulse: Option<Pulse>, place: &mut usize) -> bool
         ensures { result ≡ is_anchor self.now.pulses pulse }
     {

@@ -22,8 +22,8 @@ returns-in_default-put_all-clause-ends g c = (
   refl,
 )
 
-pub returns-in-Ok-write_product-clause-ends : goal.returns-in-Ok-write_product-clause-ends
-returns-in-Ok-write_product-clause-ends g c = (
+pub returns-in-Ok-write_if_judged-clause-ends : goal.returns-in-Ok-write_if_judged-clause-ends
+returns-in-Ok-write_if_judged-clause-ends g c = (
   record {
     proposal = c.read_to_end.new.buf.items;
     whole =
@@ -39,6 +39,7 @@ returns-in-Ok-write_product-clause-ends g c = (
   },
   refl,
   refl,
+  c.in-Ok-guard.ensures.judged,
   search rules,
   search rules,
 )
