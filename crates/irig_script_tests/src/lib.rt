@@ -3,6 +3,8 @@
 #![tactic(auto)]
 
 #[cfg(test)]
+mod in_memory;
+#[cfg(test)]
 mod scripts;
 mod sights;
 mod watching;

@@ -1,0 +1,138 @@
+//! A script run on the file of a dump, as the words of a command line ask. Here the dump is read;
+//! `script_run` has the run on what was read. A window is the part of the dump that is read, if not
+//! all is. The room is the memory that writes use: it is taken before the dump is read, so no write
+//! runs out of memory. `disk` is the files by their paths, `chosen` the settings. The screen is the
+//! output for answers.
+//!
+//! In a contract, `files` is what is known of the disk before and after, `ends` what is known of
+//! the screen, the script and the writes. Of a disk, `held` is what each file holds, if that is
+//! known, `unread` for which faults a file is not read, and `is_barred` says which files must not
+//! be written; `is_told` says whether the contracts know the folders: true of folders in memory,
+//! false of the system. `EndsBy` and `Obeys` say what was done: for the words, and for the
+//! settings. `IsApart` says that there is no window, or that the path to write does not lead to the
+//! dump.
+
+ghost use Rattle.std.specs.Prelude.{◌≡◌, IfErr, IfOk, IsTrue, false, is_some, map, string_bytes};
+ghost use Rattle.std.specs.Prelude.{true};
+ghost use Rattle.irig_editor.specs.{Ending.EndsBy, Ending.Obeys};
+ghost use Rattle.irig_editor.specs.Given.{IsApart, ends, files};
+ghost use Rattle.irig_files.specs.{Apart.LeadToOneFile, Puts.writes_on};
+
+use crate::ending::Ending;
+use crate::script_run::run_on_read;
+use irig_files::{Disk, DumpFileFault, Room, read_in_window};
+use irig_script::{Screen, Witness};
+use irig_settings::{Settings, settings};
+use irig_text::ShelfFault;
+use std::alloc::Global;
+use std::io::{Read, Write};
+
+/// Runs a script on the dump that the words of a command line name, the program's name being the
+/// first, and returns how that ended. `Usage` if `settings` finds a mistake in the words, they ask
+/// for help, or memory runs out for them; else the ending is that of `run_if_apart`.
+pub fn obey_words<'a, D: Disk, R: Read, W: Write, N: Witness>(
+    alloc: Global,
+    words: &'a [String],
+    disk: &mut D,
+    script: &mut R,
+    screen: &mut Screen<W, N>,
+) -> Ending<'a>
+    ensures { EndsBy (map string_bytes words.entry.now)
+        (files (D.held disk.old) (D.unread disk.old) D.is_told
+        (D.is_barred disk.old) (D.is_barred disk.new) (D.disk disk.old) (D.disk disk.new))
+        (ends screen.old (writes_on D.is_told (D.disk disk.old)) (R.remaining script.old))
+        (ends screen.new (writes_on D.is_told (D.disk disk.new)) (R.remaining script.new)) result }
+{
+    match settings(alloc, words) {
+        Ok(chosen) => run_if_apart(alloc, &chosen, disk, script, screen),
+        Err(fault) => Ending::Usage(fault),
+    }
+}
+
+/// Runs a script on the dump of the settings, if no part of it would replace the whole. `Over` if a
+/// window would be written to the dump, and `Unknown` if that cannot be found out: the dump and the
+/// script are not read then. Else the ending is that of `run_on_track`.
+fn run_if_apart<'a, D: Disk, R: Read, W: Write, N: Witness>(
+    alloc: Global,
+    chosen: &Settings<'a>,
+    disk: &mut D,
+    script: &mut R,
+    screen: &mut Screen<W, N>,
+) -> Ending<'a>
+    ensures { Obeys (files (D.held disk.old) (D.unread disk.old) D.is_told
+        (D.is_barred disk.old) (D.is_barred disk.new) (D.disk disk.old) (D.disk disk.new))
+        (ends screen.old (writes_on D.is_told (D.disk disk.old)) (R.remaining script.old))
+        (ends screen.new (writes_on D.is_told (D.disk disk.new)) (R.remaining script.new))
+        chosen.now result }
+{
+    match is_over(chosen, disk) {
+        Ok(false) => run_on_track(alloc, chosen, disk, script, screen),
+        Ok(true) => Ending::Over,
+        Err(_) => Ending::Unknown,
+    }
+}
+
+/// Whether there is a window, and the path to write leads to the dump. Without a window the answer
+/// is false, also if the path leads there: the whole may replace the whole. `Err`: there is a
+/// window, and the system does not say where one of the paths leads.
+fn is_over<D: Disk>(chosen: &Settings<'_>, disk: &D) -> Result<bool, ShelfFault>
+    ensures apart { IsTrue D.is_told → IfOk result (λ over. over ≡ false
+        → IsApart chosen.now (D.disk disk.now)) }
+    ensures given { IfOk result (λ over. over ≡ true → is_some chosen.now.window ≡ true) }
+    ensures over { IsTrue D.is_told → IfOk result (λ over. over ≡ true
+        → LeadToOneFile (D.disk disk.now) chosen.now.track.now chosen.now.out.now) }
+    ensures unknown { IfErr result (λ fault. is_some chosen.now.window ≡ true) }
+{
+    match chosen.window {
+        Some(_) => disk.is_same(chosen.track, chosen.out),
+        None => Ok(false),
+    }
+}
+
+/// Runs a script on the dump of the settings, after `is_over` has found that no window would be
+/// written to the dump. The memory of its writes is taken before the dump is read; if there is
+/// none, that is reported as a fault of the file, `Unread`. Else the ending is that of
+/// `run_with_room`.
+fn run_on_track<'a, D: Disk, R: Read, W: Write, N: Witness>(
+    alloc: Global,
+    chosen: &Settings<'a>,
+    disk: &mut D,
+    script: &mut R,
+    screen: &mut Screen<W, N>,
+) -> Ending<'a>
+    requires { IsTrue D.is_told → IsApart chosen.now (D.disk disk.old) }
+    ensures { Obeys (files (D.held disk.old) (D.unread disk.old) D.is_told
+        (D.is_barred disk.old) (D.is_barred disk.new) (D.disk disk.old) (D.disk disk.new))
+        (ends screen.old (writes_on D.is_told (D.disk disk.old)) (R.remaining script.old))
+        (ends screen.new (writes_on D.is_told (D.disk disk.new)) (R.remaining script.new))
+        chosen.now result }
+{
+    let Ok(mut room) = Room::new(alloc) else {
+        return Ending::Unread(chosen.track, DumpFileFault::OutOfMemory);
+    };
+    run_with_room(alloc, chosen, &mut room, disk, script, screen)
+}
+
+/// Reads the dump of the settings, and runs a script on it. Each write uses the room. `Unread` if
+/// the file could not be read, is too long, or memory ran out for it; else the ending is that of
+/// `run_on_read`, also if the dump in the file is no recording.
+fn run_with_room<'a, D: Disk, R: Read, W: Write, N: Witness>(
+    alloc: Global,
+    chosen: &Settings<'a>,
+    room: &mut Room,
+    disk: &mut D,
+    script: &mut R,
+    screen: &mut Screen<W, N>,
+) -> Ending<'a>
+    requires { IsTrue D.is_told → IsApart chosen.now (D.disk disk.old) }
+    ensures { Obeys (files (D.held disk.old) (D.unread disk.old) D.is_told
+        (D.is_barred disk.old) (D.is_barred disk.new) (D.disk disk.old) (D.disk disk.new))
+        (ends screen.old (writes_on D.is_told (D.disk disk.old)) (R.remaining script.old))
+        (ends screen.new (writes_on D.is_told (D.disk disk.new)) (R.remaining script.new))
+        chosen.now result }
+{
+    match read_in_window(alloc, disk, chosen.track, chosen.wire, chosen.window) {
+        Ok(read) => run_on_read(alloc, chosen, read, room, disk, script, screen),
+        Err(fault) => Ending::Unread(chosen.track, fault),
+    }
+}

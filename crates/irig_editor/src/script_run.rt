@@ -1,0 +1,115 @@
+//! A script run on what was read of a dump: the recording of a wire and the text of the journal, if
+//! there is one (`Parts`), or the fault of the dump (`VcdFault`). A dump with a journal is a saved
+//! session. A window is the part of the dump that is read, if not all is. Each write uses the room.
+//! `disk` is the files by their paths, `chosen` the settings. The screen is the output for answers.
+//!
+//! In a contract, `files` is what is known of the disk before and after, `ends` what is known of
+//! the screen, the script and the writes. `held`, `unread`, `is_barred` and `is_told` are as in
+//! `file_run`: what files hold, why they are not read, which must not be written, and whether the
+//! contracts know the folders. `source` is the bytes of the dump, and what was read is what they
+//! say (`Gives`). `few` (`HasBytes`) says that a journal has no more bytes than a dump may have;
+//! `apart` (`IsApart`), that there is no window, or that the path to write does not lead to the
+//! dump. `Obeys` and `RunsBy` say what was done: for the settings, and on the bytes of the dump.
+
+ghost use Rattle.std.specs.Prelude.{◌≡◌, ◌&&◌, ◌≤◌, ◌^◌, ℕ, List, IfSome, IsTrue, Ok, false};
+ghost use Rattle.std.specs.Prelude.{is_some, length};
+ghost use Rattle.irig_vcd.specs.{Answer.Gives, Answer.bytes_of, Window.parts_in};
+ghost use Rattle.irig_editor.specs.{Ending.Obeys, RunsBy.RunsBy};
+ghost use Rattle.irig_editor.specs.Given.{IsApart, ends, files};
+ghost use Rattle.irig_files.specs.Reads.{HasBytes, most_bytes, parts_of};
+ghost use Rattle.irig_files.specs.{Puts.writes_on, Tracks.name_in};
+
+use crate::ending::Ending;
+use irig_files::{Disk, FileShelf, Parts, Room};
+use irig_recording::Recording;
+use irig_script::{DumpRunFault, Screen, Status, Witness, run_on_parts};
+use irig_settings::Settings;
+use irig_vcd::{VcdFault, Window, read_back_parts};
+use std::alloc::Global;
+use std::io::{Read, Write};
+
+/// Runs a script on what was read of a dump. `Saved` if a window of a saved session was read: the
+/// script is not read then. Else `Ran`, with whether all lines were accepted, or with a fault:
+/// `Dump` if the dump is no recording, or the fault of `run_on_recording`.
+pub fn run_on_read<'a, D: Disk, R: Read, W: Write, N: Witness>(
+    alloc: Global,
+    chosen: &Settings<'a>,
+    read: Result<Parts, VcdFault>,
+    room: &mut Room,
+    disk: &mut D,
+    script: &mut R,
+    screen: &mut Screen<W, N>,
+) -> Ending<'a>
+    requires few { HasBytes (most_bytes chosen.now.window) read }
+    requires apart { IsTrue D.is_told → IsApart chosen.now (D.disk disk.old) }
+    ensures { (source : List ℕ)
+        → Gives parts_of read (parts_in chosen.now.window (name_in chosen.now.wire) source)
+        → IfSome (D.held disk.old chosen.now.track.now) (λ all. source ≡ all)
+        → Obeys (files (D.held disk.old) (D.unread disk.old) D.is_told
+        (D.is_barred disk.old) (D.is_barred disk.new) (D.disk disk.old) (D.disk disk.new))
+        (ends screen.old (writes_on D.is_told (D.disk disk.old)) (R.remaining script.old))
+        (ends screen.new (writes_on D.is_told (D.disk disk.new)) (R.remaining script.new))
+        chosen.now result }
+{
+    let (recording, journal) = match read {
+        Ok(parts) => parts,
+        Err(fault) => return Ending::Ran(chosen.track, Err(DumpRunFault::Dump(fault))),
+    };
+    if is_of_session(chosen.window, &journal) {
+        return Ending::Saved(chosen.track);
+    }
+    let result = run_on_recording(
+        alloc, chosen, recording, journal, room, disk, script, screen,
+    );
+    Ending::Ran(chosen.track, result)
+}
+
+/// Whether a part of a saved session was read: there is a window, and the dump has a journal. Such
+/// a session opens only as a whole, since a step of its journal can reach over an end of the
+/// window.
+fn is_of_session(window: Option<Window>, journal: &Option<Vec<u8>>) -> bool
+    ensures { result ≡ (is_some window && is_some journal.now) }
+{
+    window.is_some() && journal.is_some()
+}
+
+/// Runs a script on a recording and the text of its journal, by the format of the settings. Writes
+/// go to the shelf, which is here the file at the path of the settings. `Ok` says whether all lines
+/// were accepted. `Dump` if no session can be made of the recording and the journal, also because
+/// memory ran out, `Run` if the run was broken off.
+fn run_on_recording<D: Disk, R: Read, W: Write, N: Witness>(
+    alloc: Global,
+    chosen: &Settings<'_>,
+    recording: Recording,
+    journal: Option<Vec<u8>>,
+    room: &mut Room,
+    disk: &mut D,
+    script: &mut R,
+    screen: &mut Screen<W, N>,
+) -> Result<Status, DumpRunFault>
+    requires few { IfSome journal (λ text. length text.items ≤ 2 ^ 28) }
+    requires whole { (is_some chosen.now.window && is_some journal) ≡ false }
+    requires apart { IsTrue D.is_told → IsApart chosen.now (D.disk disk.old) }
+    ensures { (source : List ℕ)
+        → parts_in chosen.now.window (name_in chosen.now.wire) source
+        ≡ Ok (recording, bytes_of journal)
+        → RunsBy (files (D.held disk.old) (D.unread disk.old) D.is_told
+        (D.is_barred disk.old) (D.is_barred disk.new) (D.disk disk.old) (D.disk disk.new))
+        chosen.now source
+        (ends screen.old (writes_on D.is_told (D.disk disk.old)) (R.remaining script.old))
+        (ends screen.new (writes_on D.is_told (D.disk disk.new)) (R.remaining script.new)) result }
+{
+    // Does nothing. It is called for its contract: a dump that is written of a recording says the
+    // recording. `RunsBy` says of a window that the script ran on such a dump.
+    read_back_parts(&recording);
+    let mut shelf = FileShelf::new(disk, chosen.out, room);
+    run_on_parts(
+        alloc,
+        recording,
+        journal,
+        chosen.format,
+        script,
+        screen,
+        &mut shelf,
+    )
+}
