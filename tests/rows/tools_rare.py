@@ -26,6 +26,7 @@ WIDTHS = {"zero": 2, "one": 5, "position": 8}
 MIDDAY = 43200 * 100  # hundredths of a second
 LAST_OF_1999 = 730119  # day 365 of 1999
 LAST_OF_2016 = 736329
+OR_STOPPED = "the clock was set, or the recorder stopped"
 
 
 def signal(frames, kind="B", expression=4, day=739000, begin=MIDDAY, control=lambda k: 0, parity=None):
@@ -142,7 +143,7 @@ def of_centuries():
 
 def of_set_clocks():
     """A generator that begins again elsewhere, with another time, was set; nothing is missing."""
-    for name, hours, way in (("later", 3, "later"), ("earlier", -2, "earlier")):
+    for name, hours, way, why in (("later", 3, "later", OR_STOPPED), ("earlier", -2, "earlier", "the clock was set")):
         for move in (False, True):
             before, after = signal(8)[:730], signal(8, begin=MIDDAY + hours * 360000)
             pulses = before + [[a + 7300000, b + 7300000] for a, b in after]
@@ -150,12 +151,34 @@ def of_set_clocks():
             apart = abs(3600 * hours - 7.3)
             found = said(looked_at(pulses, move=move))
             yield same("set to a time that is %s%s" % (name, ", --move" * move), found,
-                       ["from this frame on the times are %.2f seconds %s than the frames before lead to: the clock was set" % (
-                           apart, way)])
+                       ["from this frame on the times are %.2f seconds %s than the frames before lead to: %s" % (apart, way, why)])
     cut = signal(24)
     cut = cut[:730] + [[a - 1450000, b - 1450000] for a, b in cut[875:]]
     yield same("elements that are missing", said(looked_at(cut)),
                ["145 elements are missing by the times of the frames, and the rest follows at once"])
+
+
+def with_a_pause(kind, pause):
+    """A recorder stops in frame 12 for so many seconds, and its clock with it."""
+    frame, period = 100 * timecode.INTERVAL[kind], timecode.INTERVAL[kind] // 100
+    stop = 12 * frame + 123456 * frame // 1000000
+    start = stop + round(1000000 * pause)
+    before, first = signal(13, kind), start // frame
+    after = [[rise + first * frame, fall + first * frame] for rise, fall in signal(12, kind, begin=MIDDAY + first * period)]
+    pulses = [pulse for pulse in before if pulse[1] < stop]
+    return pulses + [[rise - start + stop, fall - start + stop] for rise, fall in after if rise >= start]
+
+
+def of_recorders_that_stopped():
+    """A recorder that stops makes the step that a clock makes that was set: the line says both."""
+    later = "from this frame on the times are %.2f seconds later than the frames before lead to"
+    for kind, pause in (("A", 20.0137), ("A", 61.0137), ("A", 605.25), ("B", 61.0137), ("B", 61.5), ("B", 605.25)):
+        yield same("%s, %s seconds" % (kind, pause), said(looked_at(with_a_pause(kind, pause), kind)),
+                   [later % pause + ": " + OR_STOPPED])
+    for kind, pause in (("A", 1.3), ("B", 7)):  # whole frames
+        found = [remark.comment() for part in looked_at(with_a_pause(kind, pause), kind).parts for remark in part.remarks]
+        yield same("%s, %s seconds" % (kind, pause), [text.partition(": ")[2].partition(": ")[2] for text in found],
+                   [later % pause + "; either a stretch was cut out and the rest moved, or " + OR_STOPPED])
 
 
 def of_bases():
@@ -319,7 +342,8 @@ def of_unread():
 def cases():
     """Each kind by its name."""
     return [case("mend: rare: " + name, holds) for name, holds in (
-        ("noise", of_noise), ("centuries", of_centuries), ("clocks that were set", of_set_clocks), ("bases", of_bases),
+        ("noise", of_noise), ("centuries", of_centuries), ("clocks that were set", of_set_clocks),
+        ("recorders that stopped", of_recorders_that_stopped), ("bases", of_bases),
         ("leap seconds", of_leap_seconds),
         ("steady control functions", of_steady_control), ("control functions with a rule", of_rules),
         ("frames that are fine and wrong", of_neighbours), ("no frame is fine", of_unread))]

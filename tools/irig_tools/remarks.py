@@ -25,6 +25,8 @@ LEFT_OTHER = "it is left, and so are the elements of this code that are missing 
 LEFT_CUT = "that is left, as a track cannot be made longer"
 LEFT_SET = "that is left, and each side is mended by its own times"
 OTHER_EXPRESSION = "is it another expression?"
+CAUSES_OF_LATER = "a stretch was cut out and the rest moved, or the clock was set, or the recorder stopped"
+CAUSES_OF_EARLIER = "a stretch is there twice, or the clock was set"
 
 
 def remarks(track: Track, times: Times) -> List[Remark]:
@@ -64,9 +66,10 @@ def _of_elsewhere(track: Track) -> List[Remark]:
 
 
 def clock_was_set(seconds: float) -> str:
-    """What is seen if the times of the frames go on far away."""
-    return "from this frame on the times are %.2f seconds %s than the frames before lead to: the clock was set" % (
-        abs(seconds), "later" if seconds > 0 else "earlier")
+    """What is seen if the times of the frames go on far away. If they are later, the recorder can have stopped for as long, and its clock
+    with it; no time that goes back is from that."""
+    way, cause = ("later", "the clock was set, or the recorder stopped") if seconds > 0 else ("earlier", "the clock was set")
+    return "from this frame on the times are %.2f seconds %s than the frames before lead to: %s" % (abs(seconds), way, cause)
 
 
 def missing(zone: Zone, many: Optional[int]) -> str:
@@ -104,9 +107,9 @@ def _of_cut(track: Track, times: Times, left: List[Run], right: List[Run]) -> Re
 def _of_times(track: Track, times: Times, before: Span, after: Span) -> Remark:
     """The times of the frames go on elsewhere."""
     apart = times.calendar.apart(before.base, after.base) / SECOND
-    way, cause = ("later", "was cut out and the rest moved") if apart > 0 else ("earlier", "is there twice")
+    way, causes = ("later", CAUSES_OF_LATER) if apart > 0 else ("earlier", CAUSES_OF_EARLIER)
     seen = "from this frame on the times are %.2f seconds %s than the frames before lead to" % (abs(apart), way)
-    choice = "either a stretch %s, or the clock was set" % cause
+    choice = "either " + causes
     repair = without_copy(track, again_within(track, times, before, after))
     if repair:
         choice += "; if it is there twice, this takes the second out: " + "; ".join(repair.edits)
