@@ -17,6 +17,7 @@ from .kinds import DamageKind
 from .left import without_line
 from .opening import Opened
 from .parted import parted
+from .recounted import in_repaired
 from .script import Repair
 from .second_try import after_classes, classes_kept, once_more
 from .taken_times import takers, timed
@@ -61,6 +62,10 @@ class Applied:
         return Counts(len(found), len(became.repaired), len(became.steps), len(became.undecided) + len(became.comments), len(became.left),
                       guesses_in(script, found, refused), refused.filled, refused.lines, first.sound, last.sound,
                       most_off(script, refused))
+
+    def now(self, script: Sequence[Repair]) -> List[Repair]:
+        """The script, of which the remarks have the pulses and the times of the repaired recording."""
+        return in_repaired(script, self.after.listing.rises)
 
     def there(self) -> List[Damage]:
         """The places of damage that are still there."""

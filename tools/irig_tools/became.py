@@ -55,6 +55,14 @@ def moved_by(time: int, moves: Sequence[Move]) -> int:
     return sum(by for begin, by, _ in moves if begin < time)
 
 
+def moved_back(time: int, moves: Sequence[Move]) -> int:
+    """By how much later a time of the repaired recording is than it was; the moves are in the order of time."""
+    moved = 0
+    for begin, by, _ in moves:
+        moved += by if begin < time - moved else 0
+    return moved
+
+
 def _nearest(time: int, places: Sequence[Tuple[int, int]], met: Set[int], near: int) -> List[int]:
     """The number of the place that begins nearest to a time, if one does; places are in the order of time, and those that are met do not
     count."""

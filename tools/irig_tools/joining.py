@@ -41,4 +41,4 @@ def one_of(repairs: Sequence[Repair]) -> Repair:
     undecided = [comment for each in repairs for comment in each.undecided]
     return Repair(begin, comments, edits, until=end, moves=moves, kind=repairs[0].kind, undecided=undecided,
                   concern=of_all([each.concern for each in reversed(repairs)]), off=max(each.off for each in repairs),
-                  is_unsure=any(each.is_unsure for each in repairs))
+                  is_unsure=any(each.is_unsure for each in repairs), ahead=min(repairs, key=lambda each: each.at).ahead)

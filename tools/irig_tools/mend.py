@@ -80,6 +80,8 @@ class _Mending:
     def _add(self, listing: Listing, findings: Findings) -> None:
         """Adds the repairs that the findings call for."""
         found = called_for(findings)
+        for repair in found:
+            repair.count_in(listing.rises)
         self.looks.append((len(self.script), listing, findings))
         self.remarks = [each for each in found if not each.edits]
         changing = [number for number, each in enumerate(self.script) if changes_numbers(each)]

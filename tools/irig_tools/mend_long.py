@@ -71,8 +71,8 @@ class LongRecording:
     def reasons(self) -> List[str]:
         """Why something is left, from the end to the beginning as in a script."""
         before, texts = 0, []  # type: int, List[List[str]]
-        for window, part in zip(self.windows, self.parts):
-            texts.append(part.texts(window.pulse, before // 2))
+        for part in self.parts:
+            texts.append(part.texts(before // 2))
             before += part.edges
         return [text for found in reversed(texts) for text in found] + notes_of_rest(self.track)
 

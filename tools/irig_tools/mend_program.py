@@ -13,7 +13,7 @@ from .analysis import START, examine
 from .changes import changes_of, find_differ
 from .command import kept, of_any_length, run, unchanged
 from .applied import Applied, How, applied_to
-from .apply import Code, Summary, Target, as_object, code_of, find_guard
+from .apply import Code, Summary, Target, as_object, code_of, find_guard, turning
 from .cut_end import is_of_rest, note_if_cut, notes_of_rest
 from .damage import look
 from .damage_program import say_notes
@@ -36,6 +36,7 @@ from .output import check_apart, is_standard_output, output
 from .overview import of_program, sheet_of
 from .page import page
 from .readings import is_opened
+from .recounted import in_recording
 from .script import Repair
 from .sheet import Sheet
 from .sampled import can_be_long
@@ -155,11 +156,16 @@ def mend_with(given: Given, track: Opened, editor: Editor, others: Others, targe
         return End(explain(editor, given, others))
     script = proposed(editor, given, progress, others, given.has(MOVE))
     if not given.has(APPLY):
-        said = of_no_time(editor, script)
+        said, script = of_no_time(editor, script), as_recorded(editor, script)
         draw_proposal(given, track, script, said, progress, target.outputs)
         return End(FOUND if said or script else ALL_RIGHT, text_to_write(given, said + script, track))
     done = apply(given, track, editor, script, progress, target, others)
-    return end_of(done, text_to_write(given, script, track) if given.has(OUTPUT) else None)
+    return end_of(done, text_to_write(given, as_recorded(editor, script), track) if given.has(OUTPUT) else None)
+
+
+def as_recorded(editor: Editor, script: List[Repair]) -> List[Repair]:
+    """The script for the recording as it is, or as it is once its wire is turned over: its remarks have the pulses of that."""
+    return in_recording(script, editor.ask([each.lines() for each in script[:turning(script)]]).rises)
 
 
 def text_to_write(given: Given, script: List[Repair], track: Opened) -> str:
@@ -318,14 +324,15 @@ def apply(given: Given, track: Opened, editor: Editor, script: List[Repair], pro
     with temporary_folder() as folder:
         repaired = os.path.join(folder, "repaired.vcd")
         ran = applied_to(track, editor, script, how, repaired)
-        done = ran.counts(script).summary()
+        now = ran.now(script)
+        done = ran.counts(now).summary()
         if given.has(PAGE_OF_REPAIRS):
-            drawn = drawing(given, track, script, (ran, done), repaired)
+            drawn = drawing(given, track, now, (ran, done), repaired)
             target.outputs.enter_context(output(given.text(PAGE_OF_REPAIRS))).write(drawn.encode("utf-8"))
         say_put_back(given, target.write(repaired, track))
     code = code_of(given.names[0], track, ran.before.listing)
     is_whole = done.is_whole and not notes_of_rest(track) and not differs(script) and not ran.no_time
-    return Done(done, code, reasons_of(track, script, ran), is_whole)
+    return Done(done, code, reasons_of(track, now, ran), is_whole)
 
 
 def say_put_back(given: Given, notes: Sequence[str]) -> None:

@@ -8,13 +8,13 @@ from dataclasses import replace
 from typing import Dict, Iterator, List, Optional, Sequence, Tuple
 
 from .analysis import Findings, Part
-from .became import Became, became_of, moved_by
+from .became import Became, became_of, moved_back, moved_by
 from .damage import THE_WHOLE, Damage, Seen
 from .editor import Listing
 from .escapes import in_line
 from .moments import DAY, SECOND
 from .repairs import OFF_HERE
-from .script import Move, Repair
+from .script import Repair
 from .sheet import DAMAGED, LOST, SOUND, STATES, Changes, Place, Sheet, Stretch, Wave, cut, merged
 from .spans import Span
 from .steps import cut_by_a_step
@@ -96,24 +96,17 @@ def _places_after(seen: Seen, became: Became, script: Sequence[Repair], after: L
         place = _place_of_damage(seen, damage, script, after)
         yield replace(place, after=place.after or _wave_after(seen, after, place.at, place.end, moved_by(place.at, moves)), is_left=False)
     for damage in became.there:
-        moved = _moved_back(damage.at, moves)
+        moved = moved_back(damage.at, moves)
         own = replace(damage, at=damage.at - moved, until=max(damage.at, damage.until) - moved)
         place = _place_of_damage(seen, own, [each for each in script if not each.edits], None)
         now = _wave_after(seen, after, place.at, place.end, moved)
         said = place.reason if (own.name, own.seen) in found else "after the repair: " + place.reason
         yield replace(place, reason=said, after=None if now == place.before else now)
     for repair in became.comments:
-        end = max(repair.at, repair.until)
-        yield Place(repair.at, end, "undecided", repair.undecided[0], _wave(seen, seen.listing, repair.at, end), is_left=True,
+        begin = repair.at - moved_back(repair.at, moves)
+        end = max(begin, repair.until)
+        yield Place(begin, end, "undecided", repair.undecided[0], _wave(seen, seen.listing, begin, end), is_left=True,
                     lines=tuple(repair.lines()))
-
-
-def _moved_back(time: int, moves: Sequence[Move]) -> int:
-    """By how much later a time of the repaired recording is than it was; the moves are in the order of time."""
-    moved = 0
-    for begin, by, _ in moves:
-        moved += by if begin < time - moved else 0
-    return moved
 
 
 def _wave(seen: Seen, listing: Listing, start: int, end: int) -> Wave:

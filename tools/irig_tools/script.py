@@ -1,8 +1,10 @@
 """The script that is proposed: repairs, each with the sentences that say why."""
 from __future__ import annotations
 
+from bisect import bisect_left, bisect_right
 from dataclasses import dataclass, field, replace
-from typing import List, Tuple
+from itertools import accumulate
+from typing import List, Sequence, Tuple
 
 from .concern import NOTHING, Concern
 from .escapes import in_script
@@ -10,7 +12,8 @@ from .kinds import DamageKind
 from .units import Microseconds
 
 LONGEST_COMMENT = 395  # bytes of a comment; the editor refuses lines of more than a thousand
-BY_LINE = 200
+BY_LINE = 200  # letters of the lines that a comment has: the sentence before them takes up to 180 more
+BETWEEN = "; "
 LEFT_OUT = "so they are left out"
 
 Move = Tuple[Microseconds, int, int]  # from when on all is moved, by how many microseconds, and how many are taken out there
@@ -33,6 +36,9 @@ class Repair:
     parts: List[Repair] = field(default_factory=list)  # the same edits in several repairs, which irig_guard can keep without each other
     is_unsure: bool = False  # nothing supports one of its control functions
     is_in_fine: bool = False  # it moves rises that are off, of frames that are fine, and does nothing else
+    ahead: int = 0  # pulses that begin before it in the track in which its own are counted
+    seen: str = ""  # of a remark in the place of a repair: what is seen with the lines of that
+    out: List[str] = field(default_factory=list)  # and these lines
 
     def text(self) -> str:
         """Its edits, by which it is known."""
@@ -49,8 +55,8 @@ class Repair:
         """The editor refuses one of the edits: the other way, or if there is none a remark."""
         if self.instead:
             return replace(self.another_way(), moves=[])
-        said = "the editor refuses these lines, %s: %s" % (LEFT_OUT, "; ".join(self.edits)[:BY_LINE])
-        return Repair(self.at, self.comments + [said], kind=self.kind, undecided=self.undecided, concern=self.concern)
+        said = "the editor refuses these lines, %s: %s" % (LEFT_OUT, _whole_lines(self.edits))
+        return Repair(self.at, self.comments + [said], kind=self.kind, undecided=self.undecided, concern=self.concern, ahead=self.ahead)
 
     def another_way(self) -> Repair:
         """The other way, if there is one."""
@@ -58,9 +64,22 @@ class Repair:
 
     def left_out(self, seen: str) -> Repair:
         """A remark in its place: what is seen with its lines."""
-        lines = "; ".join(self.edits)[:BY_LINE]
-        said = "undecided: at %d: with these lines %s, %s: %s" % (self.at, seen, LEFT_OUT, lines)
-        return Repair(self.at, [said], kind=self.kind, undecided=[said], concern=self.concern)
+        said = "undecided: at %d: with these lines %s, %s: %s" % (self.at, seen, LEFT_OUT, _whole_lines(self.edits))
+        return Repair(self.at, [said], kind=self.kind, undecided=[said], concern=self.concern, ahead=self.ahead, seen=seen, out=self.edits)
+
+    def count_in(self, rises: Sequence[Microseconds]) -> None:
+        """Its pulses are counted in a track with these rises."""
+        self.ahead = bisect_left(rises, self.at)
+        for part in self.parts:
+            part.count_in(rises)
+
+
+def _whole_lines(lines: Sequence[str]) -> str:
+    """As many lines as there is room for, each whole, since they are typed; and how many more there are."""
+    ends = accumulate(len(line) + len(BETWEEN) for line in lines)
+    many = max(1, bisect_right(list(ends), BY_LINE + len(BETWEEN)))
+    more = ["and %d more" % (len(lines) - many)] * (len(lines) > many)
+    return BETWEEN.join([*lines[:many], *more])
 
 
 def _bounded(comment: str) -> str:

@@ -5,7 +5,6 @@ from __future__ import annotations
 import gc
 import json
 import os
-import re
 import sys
 from array import array
 from bisect import bisect_left
@@ -20,15 +19,15 @@ from .kinds import ALL_PULSES
 from .left import left_by, left_lines
 from .mend import propose
 from .opening import Opened
-from .script import LEFT_OUT, Repair
+from .recounted import counted_on
+from .script import Repair
 from .windows import TimeWindow
 from .wire import Wish
 from .wire_edges import WireEdges
 from .written import head, edges_text
 
 MENDER = "irig_mend"
-NUMBERS = re.compile(r"\b(pulses? )([0-9]+)(?:( to )([0-9]+))?|(?<![+-])\b()([0-9]+)(?:(,)([0-9]+))?(?= (?:delete|join|force|shift)\b)")
-NO_WINDOW = TimeWindow(0, 0, 0, 0, 0, 0, False)
+NO_WINDOW = TimeWindow(0, 0, 0, 0, 0, False)
 NOT_REPAIRED = "from %d to %d nothing is repaired: %s"
 NONE_SOUND = "from %d to %d no frame is sound, so this part is left as it was"
 
@@ -60,8 +59,8 @@ class OwnPart:
     """What became of the own part of a window."""
 
     counts: Counts
-    reasons: List[Tuple[str, bool]]  # and whether its pulses are counted in the repaired recording; numbers are those of the window
-    ahead: int  # pulses of the window before its own part, as they are when all is repaired
+    reasons: List[str]  # with the pulses of the repaired window
+    ahead: int  # pulses of that before its own part
     edges: int  # of the own part
     last: int  # the last one of them, or -1
     before: bool  # its level at its beginning
@@ -69,9 +68,9 @@ class OwnPart:
     kind: str
     expression: int
 
-    def texts(self, recorded: int, repaired: int) -> List[str]:
-        """The reasons, if that many pulses are before the window, and before its own part when all is repaired."""
-        return [_numbered(text, repaired - self.ahead if is_repaired else recorded) for text, is_repaired in self.reasons]
+    def texts(self, ahead: int) -> List[str]:
+        """The reasons, if that many pulses of the repaired recording are before its own part."""
+        return [counted_on(text, ahead - self.ahead) for text in self.reasons]
 
 
 def own_part_of(task: Task) -> OwnPart:
@@ -86,13 +85,13 @@ def work(task: Task) -> int:
     _write_dump(task)
     editor = Editor(track.words)
     how = How(lambda asked, move: _own(task.window, propose(asked, _quiet, task.steady)), _quiet, task.steady, owns=task.window.owns)
-    script, repaired = propose(editor, _quiet, task.steady), task.path("repaired")
-    ahead = bisect_left(editor.ask([each.lines() for each in script]).rises, task.window.begin)
-    script = _own(task.window, script)
+    script, repaired = _own(task.window, propose(editor, _quiet, task.steady)), task.path("repaired")
     ran = applied_to(track, editor, script, how, repaired)
-    counted, reasons = ran.counts(script), _own_reasons(task.window, script, ran)
+    now = ran.now(script)
+    counted, reasons = ran.counts(now), _own_reasons(task.window, now, ran)
+    ahead = bisect_left(ran.after.listing.rises, task.window.begin)
     if not _has_sound(ran, script):
-        repaired, reasons = track.path, [(NONE_SOUND % (task.window.begin, task.window.end), True)]
+        repaired, reasons = track.path, [NONE_SOUND % (task.window.begin, task.window.end)]
         counted = _left_as_it_was(counted)
     written, listing = _write_part(task, repaired), ran.before.listing
     with open(task.path("json"), "w", encoding="utf-8") as file:
@@ -122,23 +121,13 @@ def _left_as_it_was(counted: Counts) -> Counts:
                    sound_after=counted.sound_before, off=0)
 
 
-def _own_reasons(window: TimeWindow, script: Sequence[Repair], ran: Applied) -> List[Tuple[str, bool]]:
-    """Why something is left. What is no repair is what the last look saw, at the repaired recording,
-    but for what is left out: its lines are of the recorded one."""
+def _own_reasons(window: TimeWindow, script: Sequence[Repair], ran: Applied) -> List[str]:
+    """Why something is left."""
     refused = ran.refused
-    left = [(comment if window.owns(repair.at) else NOT_REPAIRED % (window.begin, window.end, comment),
-             not repair.edits and LEFT_OUT not in comment)
+    left = [comment if window.owns(repair.at) else NOT_REPAIRED % (window.begin, window.end, comment)
             for repair in script if not refused.drops(repair) and (window.owns(repair.at) or is_of_all(repair))
             for comment in left_by(repair)]
-    return [*((text, True) for text in [*(reason.text for reason in refused.reasons), *left_lines(ran.without_line(script))]), *left]
-
-
-def _numbered(text: str, more: int) -> str:
-    def shifted(found: "re.Match[str]") -> str:
-        word, first, to, last = found.groups()[:4] if found[2] else found.groups()[4:]
-        return "%s%d%s" % (word, int(first) + more, "%s%d" % (to, int(last) + more) if to else "")
-
-    return NUMBERS.sub(shifted, text)
+    return [*(reason.text for reason in refused.reasons), *left_lines(ran.without_line(script)), *left]
 
 
 def _write_dump(task: Task) -> None:

@@ -24,7 +24,6 @@ class TimeWindow(NamedTuple):
     """Times are microseconds of the recording. What is read reaches over the own part; the own parts together are the recording."""
 
     number: int  # from 1
-    pulse: int  # the first one that is read, among those of the recording, from 0
     start: int  # what is read, from when
     stop: int  # and up to when
     begin: int  # the own part, from when
@@ -94,7 +93,7 @@ class Windows:
         part = edges[first - gone:beyond - gone]
         stop = self.reading.length if is_last else (part[-1] + edges[beyond - gone]) // 2
         start = part[0] if first else BEFORE_ALL
-        window = TimeWindow(len(self.windows) + 1, first // 2, start, stop, self.seam.time, seam.time, is_last)
+        window = TimeWindow(len(self.windows) + 1, start, stop, self.seam.time, seam.time, is_last)
         self.windows.append(window)
         self.seam = seam
         if not is_last:
@@ -112,4 +111,4 @@ def windows_text(path: str, wish: Wish) -> str:
     def line(times: Sequence[int]) -> str:
         return " ".join(str((reading.begin or 0) + time * MICROSECOND // reading.scale) for time in times) + "\n"
 
-    return "".join(line(window[2:6]) for window in windows.windows) or line((0, reading.length, 0, reading.length))
+    return "".join(line(window[1:5]) for window in windows.windows) or line((0, reading.length, 0, reading.length))
