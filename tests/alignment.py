@@ -226,7 +226,7 @@ def _count_controls(harm, case, edges, repairs):
     if case.slips:
         return
     sound, after = set(map(tuple, case.pulses)), dict(edges)
-    undecided = [(repair.at, max(repair.at, repair.until)) for repair in repairs if repair.edits and repair.undecided]
+    undecided = [(repair.at, max(repair.at, repair.until)) for repair in repairs if repair.guesses]
     for rise, fall in case.recording.controls():
         if rise in after and not {(rise, fall), (rise, after[rise])} & sound:
             if abs(after[rise] - fall) < case.recording.interval // 10:

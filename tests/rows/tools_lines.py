@@ -8,6 +8,7 @@ from unittest import mock
 
 from cases import case
 from irig_tools import damage_program, mend_program, recounted
+from irig_tools.guess import Guess, guess_lines
 from irig_tools.script import Repair
 from random_input import damages
 from rows import in_process
@@ -120,7 +121,50 @@ def numbers_that_are_said():
                "; ".join("%d force position" % number for number in range(100, 110)) + "; and 10 more")
 
 
+GUESSED = r"frame \S+T12:00:20 to frame \S+T12:00:22, elements 60, 61, from 20600000 to 22610000: 6 are guesses: " \
+          "nothing says whether each was zero or one"
+
+
+def order_of_lines():
+    """A hole with two control functions in three frames that nothing decides, a step, and a rise that is left to a person: the guesses
+    are one line and come first, and what a person has to decide comes last. The line of a folder has that."""
+    whole = signal(FRAMES, control=lambda k: 3 * k % 4)
+    pulses = whole[:2050] + whole[2270:4033] + [[whole[4033][0] + 700, whole[4033][1]]] + whole[4034:]
+    pulses = pulses[:-1000] + [[rise + 3300, fall + 3300] for rise, fall in pulses[-1000:]]
+
+    def holds():
+        lines = run("irig_mend", [*CODE, "--apply", "new.vcd", "rec.vcd"])[1].decode().splitlines()
+        found = [line.partition("rec.vcd: ")[2] for line in lines[1:]]
+        yield same("what comes after the sums", [line.partition(": ")[0] if line[0] != "f" else "frame" for line in found],
+                   ["control functions of 3 frames are not in the recording", "frame", "stays", "undecided"])
+        yield same("the guesses", bool(re.fullmatch(GUESSED, found[1])), True)
+        os.mkdir("in")
+        os.rename("rec.vcd", "in/rec.vcd")
+        lines = run("irig_mend", [*CODE, "--jobs=1", "--apply-to", "out", "in"])[1].decode().splitlines()
+        yield same("of a folder", [line.split()[1] for line in lines if line.startswith("rec.vcd: ")], ["undecided:"])
+
+    return in_folder(lambda: list(holds()), rec=damages.dump(pulses, 1000000 * FRAMES + 3300))
+
+
+def lines_of_guesses():
+    """One line for each hole and what there is to go by, whatever the moment in another recording."""
+    nothing = "nothing says whether it was zero or one"
+    looks = "it looks like a one here, and is a zero in b.vcd at %d.000000 s"
+    found = [Guess(1000000 * frame + 10000 * element, hole, "frame %d" % frame, element, "zero", why) for frame, element, hole, why in (
+        (3, 60, 50, nothing), (3, 62, 50, looks % 8), (3, 61, 50, nothing), (4, 60, 50, nothing), (4, 62, 50, looks % 9),
+        (4, 64, 50, nothing), (4, 65, 50, nothing), (4, 66, 50, nothing), (7, 60, 90, nothing), (8, 62, 95, looks % 7))]
+    yield same("the lines", guess_lines(found[::-1]), [
+        "frame 3 to frame 4, elements 60, 61, 64 to 66, from 3600000 to 4660000: 6 are guesses: "
+        "nothing says whether each was zero or one",
+        "frame 3 to frame 4, element 62, from 3620000 to 4620000: 2 are guesses: "
+        "each looks like a one here, and is a zero in b.vcd at 8.000000 s and later",
+        "frame 7, element 60, at 7600000: this zero is a guess: " + nothing,
+        "frame 8, element 62, at 8620000: this zero is a guess: " + looks % 7])
+
+
 def cases(top):
     """Each kind by its name."""
     return [case("lines: " + name, holds) for name, holds in (
-        ("numbers that are typed", numbers_typed), ("numbers of a step", numbers_of_a_step), ("numbers that are said", numbers_that_are_said))]
+        ("numbers that are typed", numbers_typed), ("numbers of a step", numbers_of_a_step),
+        ("numbers that are said", numbers_that_are_said),
+        ("their order", order_of_lines), ("guesses", lines_of_guesses))]

@@ -768,7 +768,7 @@ def not_used():
         status, printed, _ = mend("--with=%s.vcd" % name)
         yield same(name, (status, printed), (1, ["# " + said, *plain]))
         status, printed, _ = mend("--with=%s.vcd" % name, "--apply=new.vcd")
-        yield same(name + ", --apply", (status, printed[0][:45], printed[1]),
+        yield same(name + ", --apply", (status, printed[0][:45], printed[-1]),
                    (1, "rec.vcd: 1 place found, 1 repaired (1 by a gu", "rec.vcd: " + said))
 
 

@@ -130,7 +130,7 @@ class Counts:
 
 def guesses_in(script: Sequence[Repair], found: Sequence[Damage], refused: Refused) -> int:
     """How many places are repaired by a guess: not if the repair is dropped."""
-    return _places_of([each for each in script if each.edits and each.undecided and not refused.drops(each)], found)
+    return _places_of([each for each in script if each.guesses and not refused.drops(each)], found)
 
 
 def most_off(script: Sequence[Repair], refused: Refused) -> int:

@@ -66,8 +66,7 @@ def script_lines(edits: Sequence[Edit]) -> List[str]:
 
 
 def repair_of(kind: DamageKind, at: Microseconds, comments: Sequence[str], edits: Sequence[Edit], until: Microseconds = Microseconds(0),
-              removed: int = 0, instead: Sequence[Edit] = (), undecided: Sequence[str] = (), concern: Concern = NOTHING,
-              off: int = 0) -> Repair:
+              removed: int = 0, instead: Sequence[Edit] = (), concern: Concern = NOTHING) -> Repair:
     """The edits that belong together, with what they move; `removed` microseconds are taken out."""
     moves = [(at, edit.move, removed) for edit in edits if edit.move]
-    return Repair(at, list(comments), script_lines(edits), script_lines(instead), until, moves, kind, list(undecided), concern, off)
+    return Repair(at, list(comments), script_lines(edits), script_lines(instead), until, moves, kind, concern=concern)

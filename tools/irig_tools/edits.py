@@ -21,7 +21,7 @@ class Item:
     high: float
     edits: List[Edit]
     why: str
-    lost: bool = False  # a pulse that is missing and that follows
+    lost: bool = False  # a pulse that is missing
     single: bool = False  # it gives each of its places the pulse that is wanted
     targets: Dict[PlaceNumber, str] = field(default_factory=dict)  # the classes of a frame that is generated again
     kind: DamageKind = DamageKind.OTHER
@@ -47,7 +47,7 @@ def _item(faults: Faults, place: PlaceNumber) -> Optional[Item]:
         why = "%s: no pulse; %s" % (faults.where(place), faults.reason(place))
         insert = inserted(faults.track.rise_at(place), faults.width(target, place))
         is_guess = place in faults.guesses
-        return Item(place, place, [insert], why, not is_guess, True, kind=DamageKind.MISSING, is_guess=is_guess)
+        return Item(place, place, [insert], why, True, True, kind=DamageKind.MISSING, is_guess=is_guess)
     many = faults.track.spans(place, pulses[-1])
     return _divide(faults, place, many, pulses) if many else _reduce(faults, place, pulses, target)
 

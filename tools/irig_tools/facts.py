@@ -28,7 +28,8 @@ def of_damage(damage: Damage, offset: Optional[Offset]) -> Object:
 def of_repair(repair: Repair, offset: Optional[Offset]) -> Object:
     """A repair that is proposed, or what is left to the user."""
     return {"time": repair.at, "until": max(repair.at, repair.until), **_original(repair.at, offset),
-            "kind": repair.kind, "repair": bool(repair.edits), "undecided": bool(repair.undecided), **_ends(repair.concern),
+            "kind": repair.kind, "repair": bool(repair.edits), "undecided": bool(repair.undecided or repair.guesses),
+            **_ends(repair.concern),
             "why": list(repair.comments), "script": list(repair.edits), "step": repair.concern.step, "off": repair.off}
 
 

@@ -337,7 +337,7 @@ class Faults:
         """Why this class has to be there."""
         target, element = NAMES[self.wanted[place]], place % ELEMENTS
         if place in self.guesses:
-            return "this %s is a guess: %s" % (target, self._guessed(place, target))
+            return "this %s is a guess: %s" % (target, self.guessed(place, target))
         if element in self.usual:
             return "a %s as in most frames" % target
         if place in self.by_others:
@@ -354,7 +354,7 @@ class Faults:
             return "a %s follows from the frames before: this frame was cut, and keeps the time with which it begins" % target
         return "a %s follows from the frames around it" % target
 
-    def _guessed(self, place: PlaceNumber, target: str) -> str:
+    def guessed(self, place: PlaceNumber, target: str) -> str:
         """What a guess has to go by."""
         number, element = frame_of(place), place % ELEMENTS
         other = self.elsewhere.told(number, element)

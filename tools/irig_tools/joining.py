@@ -38,7 +38,7 @@ def one_of(repairs: Sequence[Repair]) -> Repair:
     edits = [edit for each in repairs for edit in each.edits]
     moves = [move for each in repairs for move in each.moves]
     begin, end = min(each.at for each in repairs), max(max(each.at, each.until) for each in repairs)
-    undecided = [comment for each in repairs for comment in each.undecided]
-    return Repair(begin, comments, edits, until=end, moves=moves, kind=repairs[0].kind, undecided=undecided,
+    guesses = [guess for each in repairs for guess in each.guesses]
+    return Repair(begin, comments, edits, until=end, moves=moves, kind=repairs[0].kind, guesses=guesses,
                   concern=of_all([each.concern for each in reversed(repairs)]), off=max(each.off for each in repairs),
                   is_unsure=any(each.is_unsure for each in repairs), ahead=min(repairs, key=lambda each: each.at).ahead)

@@ -7,6 +7,7 @@ import shutil
 from array import array
 from contextlib import contextmanager, suppress
 from functools import reduce
+from itertools import chain
 from typing import IO, Callable, Iterator, List, Optional, Tuple
 
 from .apply import Code, Counts
@@ -19,6 +20,7 @@ from .named import wire_or_none
 from .opening import Opened, opened
 from .options import Given
 from .put_back import TrackLevel
+from .reasons import Ranked, in_order, of_whole
 from .sampled import PLACES, sample
 from .temporary import named_if_no_room
 from .window_jobs import WindowJobs
@@ -69,12 +71,12 @@ class LongRecording:
         return reduce(Counts.plus, (part.counts for part in self.parts))
 
     def reasons(self) -> List[str]:
-        """Why something is left, from the end to the beginning as in a script."""
-        before, texts = 0, []  # type: int, List[List[str]]
+        """Why something is left; of one rank from the end to the beginning as in a script."""
+        before, said = 0, []  # type: int, List[List[Ranked]]
         for part in self.parts:
-            texts.append(part.texts(before // 2))
+            said.append(part.counted(before // 2))
             before += part.edges
-        return [text for found in reversed(texts) for text in found] + notes_of_rest(self.track)
+        return in_order([*chain.from_iterable(reversed(said)), *of_whole(notes_of_rest(self.track))])
 
     def code(self, name: str) -> Code:
         return Code(name, wire_or_none(self.track), self.parts[0].kind, self.parts[0].expression)

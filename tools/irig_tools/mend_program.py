@@ -24,7 +24,6 @@ from .explain import explained
 from .folder_program import APPLY_TO, JOBS, REPORT, mend_folder
 from .facts import json_lines, repairs_as_json
 from .kinds import DamageKind
-from .left import left_by, left_lines
 from .mend import called_for, of_no_time, propose, script_text
 from .mend_long import LongRecording, looked_at
 from .named import wire_or_none
@@ -36,6 +35,7 @@ from .output import check_apart, is_standard_output, output
 from .overview import of_program, sheet_of
 from .page import page
 from .readings import is_opened
+from .reasons import in_order, of_whole, ranked
 from .recounted import in_recording
 from .script import Repair
 from .sheet import Sheet
@@ -341,11 +341,8 @@ def say_put_back(given: Given, notes: Sequence[str]) -> None:
 
 
 def reasons_of(track: Opened, script: List[Repair], ran: Applied) -> List[str]:
-    """Why something is left: repairs that are not kept, a recording that gives no time, steps that stay, what nothing decides, and a file
-    of which not all was read."""
-    left = [comment for repair in script if not ran.refused.drops(repair) for comment in left_by(repair)]
-    reasons = [reason.text for reason in ran.refused.reasons] + ran.no_time
-    return reasons + left + left_lines(ran.without_line(script)) + notes_of_rest(track)
+    """Guesses, and why something is left: also a recording that gives no time, and a file of which not all was read."""
+    return in_order([*ranked(script, ran.refused, ran.without_line(script)), *of_whole(ran.no_time + notes_of_rest(track))])
 
 
 def drawing(given: Given, track: Opened, script: List[Repair], result: Tuple[Applied, Summary], repaired: str) -> str:

@@ -41,13 +41,11 @@ def _moved_remark(repair: Repair, by: int) -> Repair:
 
 
 def _recounted(repair: Repair, rises: Sequence[Microseconds], at: int) -> Repair:
-    """A remark with its pulses counted in a track with these rises, in which it is at this time. Of a repair it is what it guesses."""
+    """A remark with its pulses counted in a track with these rises, in which it is at this time."""
     more = bisect_left(rises, at) - repair.ahead
-    if not more or repair.kind == DamageKind.DIFFERS:  # what differs has names of files, and no pulses
+    if repair.edits or not more or repair.kind == DamageKind.DIFFERS:  # what differs has names of files, and no pulses
         return repair
     comments, undecided = ([counted_on(text, more) for text in texts] for texts in (repair.comments, repair.undecided))
-    if repair.edits:
-        return replace(repair, undecided=undecided)
     pulses = tuple(plus(pulse, more) for pulse in repair.concern.pulses)
     return replace(repair, comments=comments, undecided=undecided, concern=repair.concern._replace(pulses=pulses))
 

@@ -3,7 +3,7 @@ from __future__ import annotations
 
 from dataclasses import replace
 from math import ceil
-from typing import Dict, List, Tuple
+from typing import Dict, List, Optional, Sequence, Tuple
 
 from . import limits
 from .chance import misread
@@ -11,10 +11,11 @@ from .edit import Edit, inserted, of_pulses, repair_of
 from .edits import Item, items
 from .faults import Faults, Remark
 from .grouping import grouped
+from .guess import Guess, guess_lines
 from .kinds import DamageKind
-from .layout import SHARE
+from .layout import NAMES, SHARE
 from .script import Repair
-from .units import PlaceNumber, plus, through
+from .units import ELEMENTS, Microseconds, PlaceNumber, frame_of, plus, through
 from .unsure import unsure_parts
 from .wholes import as_elsewhere, late_zones, left_rest, lost_frames, shift
 
@@ -38,31 +39,42 @@ def _in_parts(whole: Repair, faults: Faults, group: List[Item]) -> Repair:
     parts, is_in_fine = unsure_parts(faults, group), group[0].is_in_fine
     if len(parts) == 1:
         return replace(whole, is_unsure=parts[0][1], is_in_fine=is_in_fine)
-    several = [replace(_repair(faults, items).another_way(), is_unsure=is_unsure) for items, is_unsure in parts]
+    several = [replace(_repair(faults, items, whole.at).another_way(), is_unsure=is_unsure) for items, is_unsure in parts]
     return replace(whole, is_in_fine=is_in_fine, parts=several)
 
 
-def _repair(faults: Faults, group: List[Item]) -> Repair:
-    comments: List[str] = []
-    lost: List[Item] = []
-    undecided = [item.why for item in group if item.is_guess]
-    for item in group:
-        if item.lost:
-            lost.append(item)
-            continue
-        comments += _of_lost(faults, lost) + [item.why]
-        lost = []
-    comments += _of_lost(faults, lost)
+def _repair(faults: Faults, group: List[Item], hole: Optional[Microseconds] = None) -> Repair:
+    """The repair of a group, or of a part of one that begins at `hole`."""
     track = faults.track
     first, last = (track.within(PlaceNumber(int(place + 0.5))) for place in (group[-1].low, group[0].high))
     at, until = track.rise_at(first), track.rise_at(last)
+    hole = at if hole is None else hole
     concern = faults.concern(first, last)._replace(step=next((item.step for item in group if item.step), None))
     off = _can_be_off(faults, group)
-    comments += [OFF_HERE % (off / 1000)] if off else []
+    comments = _comments(faults, group, hole) + ([OFF_HERE % (off / 1000)] if off else [])
     edits, instead = [edit for item in group for edit in item.edits], _written_again(faults, group)
     if all(item.single for item in group) and 0 < len(instead) < len(edits):
-        return repair_of(_kind_of(group), at, comments, instead, until, undecided=undecided, concern=concern, off=off)
-    return repair_of(_kind_of(group), at, comments, edits, until, instead=instead, undecided=undecided, concern=concern, off=off)
+        edits, instead = instead, []
+    found = repair_of(_kind_of(group), at, comments, edits, until, instead=instead, concern=concern)
+    return replace(found, off=off, guesses=_guesses(faults, group, hole))
+
+
+def _comments(faults: Faults, group: List[Item], hole: Microseconds) -> List[str]:
+    """What was seen, and why each item follows; pulses that are missing one after the other have it together."""
+    parts = grouped(group, lambda before, item: not (before.lost and item.lost))
+    return [comment for part in parts for comment in (_of_lost(faults, part, hole) if part[0].lost else [part[0].why])]
+
+
+def _guesses(faults: Faults, group: Sequence[Item], hole: Microseconds) -> List[Guess]:
+    """What these items fill in though nothing decides it, in a hole that begins there."""
+    own = (place for item in group if item.is_guess for place in through(PlaceNumber(int(item.low)), PlaceNumber(int(item.high))))
+    return [_guess(faults, place, hole) for place in own if place in faults.guesses]
+
+
+def _guess(faults: Faults, place: PlaceNumber, hole: Microseconds) -> Guess:
+    name = NAMES[faults.guesses[place]]
+    frame = faults.times.name(frame_of(place))
+    return Guess(faults.track.rise_at(place), hole, frame, place % ELEMENTS, name, faults.guessed(place, name))
 
 
 def _can_be_off(faults: Faults, group: List[Item]) -> int:
@@ -100,10 +112,12 @@ def _written_again(faults: Faults, group: List[Item]) -> List[Edit]:
     return edits + [inserted(faults.track.rise_at(place), faults.width(targets[place], place)) for place in reversed(written)]
 
 
-def _of_lost(faults: Faults, lost: List[Item]) -> List[str]:
-    """One sentence for pulses that are missing one after the other."""
-    if len(lost) < 2:
-        return [item.why for item in lost]
-    places = [PlaceNumber(int(item.low)) for item in reversed(lost)]
-    said = "%d pulses are missing, from %s on; each follows from the frames around it" % (len(lost), faults.where(places[0]))
-    return [said + as_elsewhere(faults, places)]
+def _of_lost(faults: Faults, lost: List[Item], hole: Microseconds) -> List[str]:
+    """One sentence for pulses that are missing one after the other, and one for those of them that are guesses of a kind."""
+    sure, unsure = ([item for item in lost if item.is_guess == is_guess] for is_guess in (False, True))
+    guessed = guess_lines(_guesses(faults, lost, hole)) if len(unsure) > 1 else [item.why for item in unsure]
+    if len(sure) < 2:
+        return [item.why for item in sure] + guessed
+    places = [PlaceNumber(int(item.low)) for item in reversed(sure)]
+    said = "%d pulses are missing, from %s on; each follows from the frames around it" % (len(sure), faults.where(places[0]))
+    return [said + as_elsewhere(faults, places), *guessed]

@@ -89,10 +89,10 @@ def table_of_all(results: Sequence[Result]) -> str:
 
 
 def reason_of(result: Result) -> str:
-    """Why a recording needs a person, in a line."""
+    """Why a recording needs a person, in a line: what is to be done comes last."""
     reasons = list(result.reasons) or ["damage is left: irig_damage lists it"]
     more = " (and %d more)" % (len(reasons) - 1) if len(reasons) > 1 else ""
-    return in_line("%s: %s%s" % (result.recording, reasons[0], more))
+    return in_line("%s: %s%s" % (result.recording, reasons[-1], more))
 
 
 def sums(results: Sequence[Result]) -> str:

@@ -8,6 +8,7 @@ from typing import List, Sequence, Tuple
 
 from .concern import NOTHING, Concern
 from .escapes import in_script
+from .guess import Guess, guess_lines
 from .kinds import DamageKind
 from .units import Microseconds
 
@@ -30,7 +31,8 @@ class Repair:
     until: Microseconds = Microseconds(0)  # where it ends
     moves: List[Move] = field(default_factory=list)  # edit by edit
     kind: DamageKind = DamageKind.OTHER  # of the damage
-    undecided: List[str] = field(default_factory=list)  # the comments that say of what nothing decides
+    undecided: List[str] = field(default_factory=list)  # of a remark: the comments that say of what nothing decides
+    guesses: List[Guess] = field(default_factory=list)  # what it fills in though nothing decides that
     concern: Concern = NOTHING
     off: int = 0  # by how many microseconds what it fills in can be off, if the clock wanders and that is worth a word
     parts: List[Repair] = field(default_factory=list)  # the same edits in several repairs, which irig_guard can keep without each other
@@ -56,7 +58,8 @@ class Repair:
         if self.instead:
             return replace(self.another_way(), moves=[])
         said = "the editor refuses these lines, %s: %s" % (LEFT_OUT, _whole_lines(self.edits))
-        return Repair(self.at, self.comments + [said], kind=self.kind, undecided=self.undecided, concern=self.concern, ahead=self.ahead)
+        return Repair(self.at, self.comments + [said], kind=self.kind, undecided=guess_lines(self.guesses), concern=self.concern,
+                      ahead=self.ahead)
 
     def another_way(self) -> Repair:
         """The other way, if there is one."""

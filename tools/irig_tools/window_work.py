@@ -16,9 +16,9 @@ from .apply import Counts
 from .editor import Editor
 from .ending import ALL_RIGHT, ended, heed_signals
 from .kinds import ALL_PULSES
-from .left import left_by, left_lines
 from .mend import propose
 from .opening import Opened
+from .reasons import Rank, Ranked, ranked
 from .recounted import counted_on
 from .script import Repair
 from .windows import TimeWindow
@@ -59,7 +59,7 @@ class OwnPart:
     """What became of the own part of a window."""
 
     counts: Counts
-    reasons: List[str]  # with the pulses of the repaired window
+    reasons: List[Ranked]  # with the pulses of the repaired window
     ahead: int  # pulses of that before its own part
     edges: int  # of the own part
     last: int  # the last one of them, or -1
@@ -68,9 +68,9 @@ class OwnPart:
     kind: str
     expression: int
 
-    def texts(self, ahead: int) -> List[str]:
+    def counted(self, ahead: int) -> List[Ranked]:
         """The reasons, if that many pulses of the repaired recording are before its own part."""
-        return [counted_on(text, ahead - self.ahead) for text in self.reasons]
+        return [(rank, counted_on(text, ahead - self.ahead)) for rank, text in self.reasons]
 
 
 def own_part_of(task: Task) -> OwnPart:
@@ -91,7 +91,7 @@ def work(task: Task) -> int:
     counted, reasons = ran.counts(now), _own_reasons(task.window, now, ran)
     ahead = bisect_left(ran.after.listing.rises, task.window.begin)
     if not _has_sound(ran, script):
-        repaired, reasons = track.path, [NONE_SOUND % (task.window.begin, task.window.end)]
+        repaired, reasons = track.path, [(Rank.LEFT, NONE_SOUND % (task.window.begin, task.window.end))]
         counted = _left_as_it_was(counted)
     written, listing = _write_part(task, repaired), ran.before.listing
     with open(task.path("json"), "w", encoding="utf-8") as file:
@@ -121,13 +121,15 @@ def _left_as_it_was(counted: Counts) -> Counts:
                    sound_after=counted.sound_before, off=0)
 
 
-def _own_reasons(window: TimeWindow, script: Sequence[Repair], ran: Applied) -> List[str]:
-    """Why something is left."""
-    refused = ran.refused
-    left = [comment if window.owns(repair.at) else NOT_REPAIRED % (window.begin, window.end, comment)
-            for repair in script if not refused.drops(repair) and (window.owns(repair.at) or is_of_all(repair))
-            for comment in left_by(repair)]
-    return [*(reason.text for reason in refused.reasons), *left_lines(ran.without_line(script)), *left]
+def _own_reasons(window: TimeWindow, script: Sequence[Repair], ran: Applied) -> List[Ranked]:
+    """Why something is left, and what is a guess."""
+    own = [each if window.owns(each.at) else _of_window(window, each) for each in script if window.owns(each.at) or is_of_all(each)]
+    return ranked(own, ran.refused, ran.without_line(script))
+
+
+def _of_window(window: TimeWindow, remark: Repair) -> Repair:
+    """What is said of all that was looked at is of this window."""
+    return replace(remark, undecided=[NOT_REPAIRED % (window.begin, window.end, comment) for comment in remark.undecided])
 
 
 def _write_dump(task: Task) -> None:
