@@ -2,11 +2,12 @@
 from __future__ import annotations
 
 from contextlib import ExitStack
+from dataclasses import replace
 from typing import IO, Callable, Optional, Union
 
 from .aside import Aside
 from .carrier import CARRIERS, Carrier
-from .command import run
+from .command import kept, run
 from .dump_offset import Offset
 from .ending import ALL_RIGHT, FOUND, Usage, complain
 from .layout import INTERVAL
@@ -16,6 +17,7 @@ from .output import check_apart, output
 from .samples import MICROSECONDS, RAW, Samples
 from .table import Steps, Table
 from .texts import counted
+from .which_column import AUTO, which_column
 
 
 CARRIER_FORMAT = Option("--format", "A|B|E", "the format of code on a carrier (10 kHz, 1 kHz, 100 Hz); B if it is not given",
@@ -33,7 +35,7 @@ KIND = Option("--raw", "KIND", "u8, s8, s16, s24, s32: integers; f32, f64: float
 RATE = Option("--rate", "HERTZ", "the samples in a second, with --raw or --table", whole(1))
 TABLE = Option("--table", about="SAMPLES is a table of an oscilloscope or a logic analyser, as CSV")
 TIME_COLUMN = Option("--time-column", "NAME", "the column of the times, by its head or its number, from 1")
-COLUMN = Option("--column", "NAME", "the column of the levels or volts")
+COLUMN = Option("--column", "NAME", "the column of the levels or volts; auto looks for the one that has time code")
 SAMPLES = Option("--samples", "FILE", "also writes what was recorded next to the code, for irig_time: a line for each sample of the other "
                  "channels, or of the other columns, with its time in the dump in microseconds, and a tab before each value")
 COMMAND = Command("irig_demodulate", ("SAMPLES",), """\
@@ -85,7 +87,6 @@ def table_of(given: Given, aside: Optional[Aside]) -> Table:
 
 
 def reader_of(given: Given, aside: Optional[Aside] = None) -> Demodulator:
-    check_options(given)
     if not given.has(TABLE):
         values = given.names[0], given.number(CHANNEL) or 1, given.text(KIND) or "", given.number(RATE) or 0
         return reader_of_samples(given, lambda swapped: Samples(*values, swapped, aside))
@@ -161,6 +162,24 @@ def subtracted(first: int) -> str:
 
 def work(given: Given) -> int:
     check_apart(given.names[0], [(each.name, given.text(each)) for each in (OUTPUT, SAMPLES)], not given.has(OUTPUT))
+    check_options(given)
+    if not given.has(TABLE) or given.text(COLUMN) != AUTO:
+        return demodulate(given)
+    with kept(given.names[0]) as path:
+        return demodulate(with_column(replace(given, names=[path])))
+
+
+def with_column(given: Given) -> Given:
+    """What is given, with the column that has time code, and how it is read if that is not given."""
+    found = which_column(given.names[0], given.text(TIME_COLUMN), given.number(RATE) or 0)
+    say(found.text)
+    values = COMMAND.parse([*found.words, given.names[0]]).values
+    known = {name: value for name, value in given.values.items() if value not in (None, False) and name != COLUMN.name}
+    is_told = any(map(given.has, (LEVEL, CARRIER, CARRIER_FORMAT)))
+    return replace(given, values={**given.values, **({COLUMN.name: values[COLUMN.name]} if is_told else values), **known})
+
+
+def demodulate(given: Given) -> int:
     with ExitStack() as outputs:
         aside = Aside(outputs.enter_context(output(given.text(SAMPLES)))) if given.has(SAMPLES) else None
         reader = reader_of(given, aside)

@@ -16,6 +16,7 @@ from .sampled import PLACES, can_be_long, sample
 from .search import HOPELESS, WINDOW
 from .texts import counted
 from .what import What
+from .what_samples import Lanes, lanes_at
 
 COMMAND = Command("irig_what", ("DUMP",), """\
 Says which wires of a value change dump carry IRIG 200-04 time code, upright or
@@ -23,6 +24,8 @@ upside down, in which format, and for each coded expression how many frames are
 fine, with the time of the first and of the last. The last line is the command to
 continue with: irig_mend for a damaged recording, else irig_ed. It writes over no
 file that is there. DUMP is any dump that irig_wire reads; - is standard input.
+Of a table, or of a WAV file, it says which column or channel has time code, and
+the last line has all commands up to the time of day of the other ones.
 """, (TIMESCALE, DUMP, JSON), """\
 The editor is the program that IRIG_ED names, or irig_ed on the path.
 The status is 0 if just one wire carries time code, 1 if none does or several,
@@ -32,15 +35,33 @@ defect.
 """)
 
 
+NO_LANE = "no column or channel of %d carries time code of format A, B, E or G"
+
+
 def work(given: Given) -> int:
     name = given.names[0]
     check_apart(name)
     with kept(name) as path, ExitStack() as parts:
+        lanes = lanes_at(path)
+        if lanes:
+            return say_lanes(lanes, name, given.has(JSON))
         unit, dump = given.text(TIMESCALE) or "", given.number(DUMP)
         part = what_of_a_part(path, name, unit, parts) if dump is None and can_be_long(path) else None
         what = part or What(path, name, unit, dump or 1)
         sys.stdout.write(as_json(what) if given.has(JSON) else as_text(what))
     return ALL_RIGHT if what.carriers and what.sure() else FOUND
+
+
+def say_lanes(lanes: Lanes, name: str, as_objects: bool) -> int:
+    """Says what is in a table or in a sound file."""
+    found = lanes.with_code()
+    commands = [each.command(name, lanes.many > 1) for each in found]
+    if as_objects:
+        sys.stdout.write(objects([each.as_object(command) for each, command in zip(found, commands)]))
+    else:
+        lines = [line for each in found for line in each.lines()] + commands[:1] if found else [NO_LANE % lanes.many]
+        sys.stdout.write("".join(line + "\n" for line in lines))
+    return ALL_RIGHT if len(found) == 1 and found[0].carrier.fine else FOUND
 
 
 def what_of_a_part(path: str, name: str, unit: str, parts: ExitStack) -> Optional[What]:
