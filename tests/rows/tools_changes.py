@@ -9,7 +9,7 @@ import tempfile
 from unittest import mock
 
 import mending
-from built import DIFF
+from built import DIFF, TIME
 from cases import case
 from irig_tools import changes, damage
 from irig_tools.editor import Listing
@@ -332,10 +332,41 @@ def counted():
         yield same("the level from %d to %d" % (start, end), changes.level_in(listing, start, end), level)
 
 
+TIMED = "<p>irig_time gives ([0-9.]+) s of ([0-9.]+) s their time of day, ([0-9.]+) %</p>"
+APART = 700  # microseconds between two samples
+
+
+def timed():
+    """The share of the recording that has its time, and the stretches without one, are those of samples at other moments. The list has
+    what was repaired, also in a browser without JavaScript."""
+    def holds(change):
+        run("irig_mend", ["--expression=4", *PAGE, "rec.vcd"])
+        with open("page.html", encoding="utf-8") as file:
+            page = file.read()
+        share, length = re.search(TIMED, page)[3], re.search(TIMED, page)[2]
+        named = re.search("<p>without a time: (.*?)</p>", page)[1]
+        stretches = [(float(begin), float(end), why) for begin, end, why in re.findall(r"([0-9.]+) s to ([0-9.]+) s \((\w+)\)", named)]
+        moments = range(APART // 2, round(1e6 * float(length)), APART)
+        lines = subprocess.run([TIME, "--why", "--expression=4", "new.vcd"], input="".join("%d\n" % each for each in moments),
+                               stdout=subprocess.PIPE, text=True, check=False).stdout.splitlines()
+        found = [line.partition("\t")[0] for line in lines]
+        wrong = [at for at, word in zip(moments, found)
+                 if [why for begin, end, why in stretches if begin <= at / 1e6 < end] != [word] * (not word[0].isdigit())]
+        yield same("%s: where there is no time" % change.__name__, wrong, [])
+        alike = abs(float(share) - 100 * sum(word[0].isdigit() for word in found) / len(found)) < 0.05
+        yield same("%s: the share" % change.__name__, alike, True)
+        listed = re.findall("<li>(.*?)</li>", page.partition("<noscript>")[2].partition("</noscript>")[0])
+        yield same("%s: the list" % change.__name__, [text.rpartition(": ")[2] for text in listed],
+                   ["repaired", "left to you"][:1 + (change is both)])
+
+    for change in (glitch, both):
+        yield from in_folder(lambda change=change: list(holds(change)), rec=damages.dump(recorded(change), END + 3300))
+
+
 def cases(top):
     """Each part by its name."""
     found = [case("mend: changes: " + row[0], worked, top, *row) for row in WORKED]
     found += [case("mend: changes: damaged %d" % seed, damaged, top, seed) for seed in range(RANDOM)]
     found += [case("mend: changes: irig_mend " + row[0], commanded, top, *row) for row in COMMANDS]
     found += [case("mend: changes: " + part.__name__, part, top) for part in (troubled, unguarded, unwritten, dropped)]
-    return found + [case("mend: changes: " + part.__name__, part) for part in (proposed, gone, summed, counted)]
+    return found + [case("mend: changes: " + part.__name__, part) for part in (proposed, gone, summed, counted, timed)]

@@ -28,7 +28,8 @@ HUNDREDS = {
     "carrier": ("hertz", "cycles in an element"), "damage": ("percent", "percent"), "dump_units": ("units of time",),
     "layout": ("microseconds", "hundredths of a second", "of a day's number", "of a day's number", "of a day's number"),
     "moments": ("hundredths of a second", "years", "years"), "page": ("waveforms",), "picture": ("letters",), "progress": ("percent",),
-    "svg": ("of the width",), "threshold": ("of an interval",) * 4, "units": ("ELEMENTS itself",), "windows": ("frames",),
+    "svg": ("of the width",), "threshold": ("of an interval",) * 4, "units": ("ELEMENTS itself",), "untimed": ("percent",),
+    "windows": ("frames",),
 }
 UNIT_AT_EACH_NUMBER = ("limits",)
 

@@ -42,6 +42,7 @@ from .sheet import Sheet
 from .sampled import can_be_long
 from .temporary import named_if_no_room, temporary_folder
 from .texts import counted
+from .untimed import said_of_times
 from .window_work import Task
 from .windows import SIZE, named_size
 
@@ -355,7 +356,8 @@ def drawing(given: Given, track: Opened, script: List[Repair], result: Tuple[App
     changes = changes_of(track, before.listing, repaired)
     changes.command = again(names, track, before.listing)
     sheet = sheet_of(os.path.basename(given.names[0]), wire_or_none(track), before, script, ran.after.listing, changes, ran.there())
-    noted = replace(sheet, notes=(*sheet.notes, *done.notes, *ran.no_time))
+    timed = said_of_times(track.code, repaired, ran.after.listing)
+    noted = replace(sheet, notes=(*sheet.notes, *done.notes, *ran.no_time, *timed))
     return page(of_program(noted, COMMAND.name, "%s: %s" % (name_of(given.names[0]), done.text())))
 
 

@@ -33,6 +33,8 @@ def page(sheet: Sheet, most: int = MOST_LISTED) -> str:
         "MADE": escaped(sheet.made),
         "FACTS": escaped(facts_of(sheet)),
         "NOTES": "".join("<p>%s</p>" % escaped(note) for note in sheet.notes),
+        "LISTED": "".join(listed_places(sheet, most)),
+        "TITLED": counted(len(sheet.places), "place") if sheet.places else "No place of damage",
         "LEGEND": "".join(legend_items(sheet)),
         "CHANGES": changed(sheet.changes) if sheet.changes else "",
         "STYLE": style,
@@ -55,6 +57,14 @@ def file_text(name: str) -> str:
 def digest(code: str) -> str:
     """What a browser compares before it runs code: nothing else on the page is ever run."""
     return base64.b64encode(hashlib.sha256(code.encode()).digest()).decode()
+
+
+def listed_places(sheet: Sheet, most: int) -> Iterator[str]:
+    """The places as a browser without JavaScript shows them."""
+    for place in sheet.places[:most]:
+        state = "left to you" if place.is_left else "repaired" if sheet.changes else "repair proposed" if sheet.script else ""
+        words = [seconds(place.at) + (", " + place.frame) * bool(place.frame), place.title, state]
+        yield "<li>%s</li>" % escaped(": ".join(word for word in words if word))
 
 
 def legend_items(sheet: Sheet) -> Iterator[str]:
