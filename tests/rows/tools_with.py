@@ -58,18 +58,18 @@ class Track:
         return judge(listing, *how)
 
 
-def read(pulses, *codes):
+def read(pulses, *codes, trusts_most=False):
     """What other recordings say of one with these pulses."""
     def findings(each):
         return others.seen_in(Track(each), lambda text: None)
 
     named = [others.other_of("%s.vcd" % name, findings(each)) for name, each in zip("BCD", codes)]
-    return others.others_of(findings(pulses), named)
+    return others.others_of(findings(pulses), named, trusts_most)
 
 
-def mended(pulses, *codes):
+def mended(pulses, *codes, **how):
     """What is wanted where, why, which are guesses, and the remarks; other recordings have these codes."""
-    found = read(pulses, *codes)
+    found = read(pulses, *codes, **how)
     findings = examine(listed(pulses), witnesses=found.witnesses)
     faults = [part.faults for part in findings.parts]
     wanted = tools_rare.wanted(findings)
@@ -757,6 +757,7 @@ REFUSED = (
     ("--with=day.vcd --apply=day.vcd", "--apply day.vcd would write over the file that is read, day.vcd"),
     ("--with=day.vcd --apply-to=folder", "--apply-to and --with exclude each other (irig_mend --help says more)"),
     ("--with=", "--with needs a file: --with OTHER (irig_mend --help says more)"),
+    ("--with=day.vcd --trust-most", "--trust-most needs --with twice: two of three recordings are the most (irig_mend --help says more)"),
 )
 
 
@@ -787,6 +788,38 @@ def that_differ():
                (1, True, ["rec.vcd: day.vcd is not used: " + NO_TIME % "86400.00 seconds later"]))
 
 
+def of_most():
+    """Two of three recordings agree against a frame that is fine here: with --trust-most they decide, and each rise stays."""
+    pulses, two = flipped(code(), LOST), (slow(code()), slow(code(), -0.0004))
+    here, there = class_at(pulses, LOST), class_at(code(), LOST)
+    for name, others_have, wanted in (
+            ("two", two, {LOST: there}), ("one", two[:1], {}), ("one of two", (two[0], slow(pulses, -0.0004)), {})):
+        found = mended(pulses, *others_have, trusts_most=True)
+        yield same(name + " have it otherwise", (found[0], len(found[3])), (wanted, int(name == "one")))
+    yield same("without it", (mended(pulses, *two)[0], len(mended(pulses, *two)[3])), ({}, 1))
+    reason, = mended(pulses, *two, trusts_most=True)[1]
+    name = {"0": "zero", "1": "one"}
+    yield same("its reason", reason, "a %s as recorded in B.vcd at %s and C.vcd at %s, as most recordings have it" % (
+        name[there], place_of(two[0], LOST), place_of(two[1], LOST)))
+    late(pulses, LOST + 205, 600)
+    lost = [pulse for at, pulse in enumerate(pulses) if at != 420]
+
+    def holds():
+        words = ["--with=b.vcd", "--with=c.vcd", "--apply=new.vcd"]
+        status, printed, _ = mend(*words)
+        yield same("without it", (status, [line.partition("rec.vcd: ")[2][:7] for line in printed[1:]]), (1, ["differs", "undecid"]))
+        status, printed, _ = mend(*words, "--trust-most")
+        line = "trusted: at 10630000: frame 2024-115T12:00:10, element 63, pulse 1064: %d wide, a %s; " % (
+            {"0": 2000, "1": 5000}[here], name[here])
+        yield same("with it", (status, [each.partition("rec.vcd: ")[2] for each in printed[1:2]]), (1, [line + reason.replace("B", "b", 1)
+                   .replace("C", "c", 1)]))
+        wanted = [list(pulse) for pulse in code()]
+        late(wanted, LOST + 205, 600)
+        yield same("what is written", edges(text_of("new.vcd")) == edges(dump(wanted)), True)
+
+    yield from in_folder(lambda: list(holds()), rec=dump(lost), b=dump(two[0]), c=dump(two[1]))
+
+
 def wrong_words():
     """Options that end with status 2, and nothing is printed or written."""
     for words, said in REFUSED:
@@ -805,6 +838,6 @@ def of_refused():
 
 
 def cases(_top):
-    parts = (of_lost, of_recorded, of_explained, of_votes, of_trusted, of_other_code, of_contrary, of_rules, of_few, of_beside, of_width,
-             of_meeting, of_inserted, of_apply, of_guarded, of_parity, of_classes, of_parts, of_mended, of_fine, of_refused)
+    parts = (of_lost, of_recorded, of_explained, of_votes, of_trusted, of_most, of_other_code, of_contrary, of_rules, of_few, of_beside,
+             of_width, of_meeting, of_inserted, of_apply, of_guarded, of_parity, of_classes, of_parts, of_mended, of_fine, of_refused)
     return [case("mend: with: " + part.__name__[3:].replace("_", " "), lambda part=part: list(part())) for part in parts]

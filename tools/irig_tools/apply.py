@@ -171,16 +171,24 @@ def beside(others: Sequence[str]) -> List[str]:
 def run_script(track: Opened, script: Sequence[Repair], save: bool, out: str, moved: bool, kind: str,
                others: Sequence[str] = ()) -> Refused:
     """Runs a script on the track, of this format, through irig_guard and writes a file, with its history if `save`; what was
-    refused. Frames that are fine may move if `moved`. A wire that is upside down is first turned over by the editor, since
-    irig_guard goes by the frames that are fine. It gets the dumps of other recordings."""
-    ending = "save" if save else "write"
-    guard, many = [find_guard(), *["--moved"] * moved, *beside(others)], turning(script)
-    if not many:
+    refused. Frames that are fine may move if `moved`. What irig_guard goes by is first made by the editor. It gets the dumps of other
+    recordings."""
+    guard, (first, rest) = [find_guard(), *["--moved"] * moved, *beside(others)], made_before(script)
+    if not first:
         guard, path = [*guard, *track.options], track.path
     else:
         guard, path = [*guard, *track.code], turned_track(out)
-        _run([find_editor(), *track.options], track.path, [*lines_of_all(script[:many]), ending], path)
-    return run_guarded([*guard, *["--save"] * save], path, script[many:], out, kind)
+        _run([find_editor(), *track.options], track.path, [*lines_of_all(first), "save" if save else "write"], path)
+    return run_guarded([*guard, *["--save"] * save], path, rest, out, kind)
+
+
+def made_before(script: Sequence[Repair]) -> Tuple[Sequence[Repair], Sequence[Repair]]:
+    """What the editor makes before irig_guard judges all else, and that: a wire that is upside down is turned over, since the guard goes by
+    the frames that are fine; and what most recordings have is trusted without it: that changes neither a time nor how many pulses there
+    are."""
+    many = turning(script)
+    trusted = [each for each in script[many:] if each.is_trusted]
+    return [*script[:many], *trusted], [each for each in script[many:] if not each.is_trusted]
 
 
 def run_guarded(command: List[str], path: str, script: Sequence[Repair], out: str, kind: str) -> Refused:

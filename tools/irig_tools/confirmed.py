@@ -15,6 +15,7 @@ from .witnesses import OTHER, Witnesses, rule_with
 BY_HAND = "force the one that is wrong"
 NOT_AS_WIDE = ", and the %s here is not as wide as others"
 NEXT_TO_DAMAGE = ", and what is next to it here is damaged, too"
+MOST_HAVE_IT = ", as most recordings have it"
 NOT_TAKEN = "so nothing of it is taken: its clock was set otherwise, or it is another code"
 
 
@@ -42,6 +43,7 @@ def _compare_elsewhere(faults: Faults) -> None:
                 continue
             why = _why_damage(faults, number, element) if number not in faults.contrary else None
             if why is not None:
+                faults.trusted.update([place] * (why == MOST_HAVE_IT))
                 faults.wanted[place], faults.besides[place] = OTHER[faults.times.texts[number][element]], why
                 faults.by_others.add(place)
             else:
@@ -67,9 +69,10 @@ def _why_damage(faults: Faults, number: FrameNumber, element: int) -> Optional[s
     width = _not_as_wide(faults, number, element)
     if width and (number not in times.sound or times.is_beside(number, element, OTHER[here]) or _is_apart(faults, number, element)):
         return width
+    is_voted = elsewhere.outvotes(number, element, here)
     if number in times.sound:
-        return None
-    return "" if elsewhere.outvotes(number, element, here) else _next_to_damage(faults, number, element)
+        return MOST_HAVE_IT if is_voted and elsewhere.trusts_most else None
+    return "" if is_voted else _next_to_damage(faults, number, element)
 
 
 def _not_as_wide(faults: Faults, number: FrameNumber, element: int) -> str:

@@ -27,6 +27,7 @@ class Item:
     kind: DamageKind = DamageKind.OTHER
     is_guess: bool = False  # nothing decides one of its classes
     is_in_fine: bool = False  # its rise alone is off, in a frame that is fine
+    is_trusted: bool = False  # it changes the class alone, in a sound frame, as most recordings have it
     step: Optional[int] = None  # by how many microseconds a rest that it moves is late
 
 
@@ -43,6 +44,9 @@ def items(faults: Faults) -> List[Item]:
 
 def _item(faults: Faults, place: PlaceNumber) -> Optional[Item]:
     pulses, target = faults.track.pulses_at(place), faults.wanted[place]
+    if place in faults.trusted:
+        why = "%s: %s; %s" % (faults.where(place), faults.seen(place), faults.reason(place))
+        return Item(place, place, [of_pulse("force", pulses[0], NAMES[target])], why, kind=DamageKind.CONTROL, is_trusted=True)
     if not pulses:
         why = "%s: no pulse; %s" % (faults.where(place), faults.reason(place))
         insert = inserted(faults.track.rise_at(place), faults.width(target, place))

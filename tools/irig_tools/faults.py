@@ -61,6 +61,7 @@ class Faults:
         self.guesses: Dict[PlaceNumber, str] = {}  # places of control functions that nothing says
         self.by_rule: Set[PlaceNumber] = set()  # places of control functions that a rule says
         self.by_others: Set[PlaceNumber] = set()  # and that other recordings have
+        self.trusted: Set[PlaceNumber] = set()  # of these, those of sound frames, by the most of several
         self.besides: Dict[PlaceNumber, str] = {}  # of these places, recorded otherwise here, what else says so
         self.contrary: Set[FrameNumber] = set()  # frames that show another time, too clearly to be damage
         self.remarks: List[Remark] = []

@@ -59,6 +59,8 @@ SAVE = Option("--save", about="with --apply: the file keeps the steps, so that e
 INTO = Option("--into", "ORIGINAL", "with --apply: writes this file with the repaired track instead of its wire")
 WITH = Option("--with", "OTHER", "another recording of the same code, with a clock of its own: what it has of the same second decides "
               "control functions that are lost here; can be given several times", is_list=True)
+TRUST_MOST = Option("--trust-most", about="with --with twice or more: what most recordings have of a control function decides "
+                    "in a frame that is fine, too")
 COMMAND = Command("irig_mend", ("TRACK",), """\
 Proposes a script that repairs a recording of IRIG 200-04 time code, or runs it.
 Before each repair a comment says what was seen and why this repair follows. What
@@ -73,7 +75,8 @@ expression are found if they are not given:
   irig_mend --with other.vcd --apply new.vcd track.vcd    two recorders
   irig_mend --expression 4 track.vcd > repair.ed      read it, change it
   (cat repair.ed; echo write) | irig_ed --expression 4 --out new.vcd track.vcd
-""", (*EDITOR, TIMESCALE, DUMP, PAGE_OF_REPAIRS, STEADY, MOVE, WITH, EXPLAIN, OUTPUT, APPLY, SAVE, INTO, APPLY_TO, REPORT, JOBS, JSON), """\
+""", (*EDITOR, TIMESCALE, DUMP, PAGE_OF_REPAIRS, STEADY, MOVE, WITH, TRUST_MOST, EXPLAIN, OUTPUT, APPLY, SAVE, INTO, APPLY_TO, REPORT,
+      JOBS, JSON), """\
 The editor is the program that IRIG_ED names, or irig_ed on the path.
 The status is 0 if there is nothing to repair, 1 if there is something, 2 if the
 track was not read, and 70 if memory ran out or the tool has a defect. With
@@ -146,7 +149,7 @@ def mend_opened(given: Given, track: Opened, original: Optional[str], outputs: E
     say_notes(track, given.names[0], COMMAND.name)
     editor = Editor(track.words)
     with ExitStack() as files:
-        others = read_others(given.texts(WITH), editor, progress, COMMAND.name, files)
+        others = read_others(given.texts(WITH), editor, progress, COMMAND.name, files, given.has(TRUST_MOST))
         end = mend_with(given, track, editor, others, target_of(given, track, original, outputs), progress)
     return end
 
@@ -259,6 +262,8 @@ def check(given: Given) -> None:
     for option in (APPLY, INTO, OUTPUT, EXPLAIN, WITH):
         if given.has(APPLY_TO) and given.has(option):
             raise Usage("--apply-to and %s exclude each other" % option.name)
+    if given.has(TRUST_MOST) and len(given.texts(WITH)) < 2:
+        raise Usage("%s needs %s twice: two of three recordings are the most" % (TRUST_MOST.name, WITH.name))
     if given.has(APPLY_TO):
         return
     if os.path.isdir(given.names[0]):
@@ -350,7 +355,7 @@ def drawing(given: Given, track: Opened, script: List[Repair], result: Tuple[App
     """The page of what was repaired, and the sums."""
     ran, done = result
     before = ran.before
-    rules = [option.name for option in (STEADY, MOVE) if given.has(option)]
+    rules = [option.name for option in (STEADY, MOVE, TRUST_MOST) if given.has(option)]
     rules += ["%s=%s" % (WITH.name, name if is_kept(name) else WITH.value) for name in given.texts(WITH)]
     names = Names(given.names[0], given.text(APPLY) or "", given.text(INTO), given.number(DUMP), rules)
     changes = changes_of(track, before.listing, repaired)

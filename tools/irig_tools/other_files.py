@@ -33,8 +33,9 @@ def _is_one_file(one: str, other: str) -> bool:
     return os.path.exists(one) and os.path.exists(other) and os.path.samefile(one, other)
 
 
-def read_others(names: Sequence[str], editor: Editor, progress: Progress, program: str, files: ExitStack) -> Others:
-    """What these recordings say of the editor's track. Their dumps are there until the files are closed."""
+def read_others(names: Sequence[str], editor: Editor, progress: Progress, program: str, files: ExitStack, trusts_most: bool) -> Others:
+    """What these recordings say of the editor's track, and whether most of them are trusted. Their dumps are there until the files are
+    closed."""
     listing = editor.ask([])
     code = Given(values={FORMAT.name: listing.kind, EXPRESSION.name: str(listing.expression)})
     found: List[Other] = []
@@ -43,7 +44,7 @@ def read_others(names: Sequence[str], editor: Editor, progress: Progress, progra
         other, why = _read_other(name, code, progress, program, files)
         found += [] if why else [other]
         remarks += [not_used(other.name, why)] if why else []
-    others = others_of(seen_in(editor, progress), found) if found else Others(NO_WITNESSES)
+    others = others_of(seen_in(editor, progress), found, trusts_most) if found else Others(NO_WITNESSES)
     return replace(others, remarks=remarks + others.remarks)
 
 

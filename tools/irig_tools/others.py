@@ -214,7 +214,7 @@ def _later(by: int) -> str:
     return "%.2f seconds %s" % (abs(by) / SECOND, "later" if by > 0 else "earlier")
 
 
-def others_of(findings: Findings, found: Sequence[Other]) -> Others:
+def others_of(findings: Findings, found: Sequence[Other], trusts_most: bool = False) -> Others:
     """What other recordings say of one in which this is found."""
     comparison, remarks, lines, paths = Comparison(findings), [], [], []
     witnesses: Dict[TimeOfFrame, List[Witness]] = defaultdict(list)
@@ -226,7 +226,7 @@ def others_of(findings: Findings, found: Sequence[Other]) -> Others:
         for time, frames in () if why else _by_time(other):
             if _is_one(frames):
                 witnesses[time].append(frames[0])
-    return Others(Witnesses(dict(witnesses)), remarks, lines, paths)
+    return Others(Witnesses(dict(witnesses), trusts_most), remarks, lines, paths)
 
 
 def _by_time(other: Other) -> ItemsView[TimeOfFrame, List[Witness]]:

@@ -16,22 +16,25 @@ from .script import Repair
 class Rank(IntEnum):
     """Of a line."""
 
-    GUESSED = 0  # nothing is to be done
-    STAYS = 1
-    NOT_KEPT = 2
-    LEFT = 3
-    DIFFERS = 4
-    UNDECIDED = 5  # the line has what to choose from
-    OF_ALL = 6  # the whole recording
+    TRUSTED = 0  # nothing is to be done
+    GUESSED = 1  # nor here
+    STAYS = 2
+    NOT_KEPT = 3
+    LEFT = 4
+    DIFFERS = 5
+    UNDECIDED = 6  # the line has what to choose from
+    OF_ALL = 7  # the whole recording
 
 
 Ranked = Tuple[int, str]
+TRUSTED_AT = "trusted: at %d: %s"
 
 
 def ranked(script: Sequence[Repair], refused: Refused, left: Sequence[Damage]) -> List[Ranked]:
     """What is said of a script that was run, of which irig_guard refused something, and of the places that are left."""
     kept = [each for each in script if not refused.drops(each)]
-    found: List[Ranked] = [(Rank.GUESSED, line) for line in guess_lines(guess for each in kept for guess in each.guesses)]
+    found: List[Ranked] = [(Rank.TRUSTED, TRUSTED_AT % (each.at, comment)) for each in kept if each.is_trusted for comment in each.comments]
+    found += [(Rank.GUESSED, line) for line in guess_lines(guess for each in kept for guess in each.guesses)]
     found += [(Rank.NOT_KEPT, reason.text) for reason in refused.reasons]
     found += [(_rank_of(each), comment) for each in kept for comment in left_by(each)]
     return found + [(Rank.LEFT, line) for line in left_lines(left)]

@@ -41,9 +41,10 @@ def _moved_remark(repair: Repair, by: int) -> Repair:
 
 
 def _recounted(repair: Repair, rises: Sequence[Microseconds], at: int) -> Repair:
-    """A remark with its pulses counted in a track with these rises, in which it is at this time."""
+    """A remark with its pulses counted in a track with these rises, in which it is at this time; of a repair what is trusted."""
     more = bisect_left(rises, at) - repair.ahead
-    if repair.edits or not more or repair.kind == DamageKind.DIFFERS:  # what differs has names of files, and no pulses
+    has_none = repair.kind == DamageKind.DIFFERS  # only names of files, and no pulses
+    if repair.edits and not repair.is_trusted or not more or has_none:
         return repair
     comments, undecided = ([counted_on(text, more) for text in texts] for texts in (repair.comments, repair.undecided))
     pulses = tuple(plus(pulse, more) for pulse in repair.concern.pulses)

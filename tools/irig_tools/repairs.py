@@ -30,15 +30,20 @@ def repairs(seen: Faults) -> Tuple[List[Repair], List[Remark]]:
     single = faults.without({place for item in whole for place in item.targets})
     found = [shift(faults, zone) for zone in moved] + whole + misread(single) + items(single)
     groups = grouped(sorted(found, key=lambda item: -item.low),
-                     lambda before, item: before.low - item.high > 1 or before.is_in_fine != item.is_in_fine)
+                     lambda before, item: before.low - item.high > 1 or _is_otherwise(before, item))
     return [_in_parts(_repair(single, group), faults, group) for group in groups], [left_rest(seen, zone) for zone in left]
+
+
+def _is_otherwise(one: Item, other: Item) -> bool:
+    """Whether one is a repair of another kind of frame."""
+    return (one.is_in_fine, one.is_trusted) != (other.is_in_fine, other.is_trusted)
 
 
 def _in_parts(whole: Repair, faults: Faults, group: List[Item]) -> Repair:
     """The repair of a group, with its parts if it has several. They are the other way, as the editor has not tried them."""
     parts, is_in_fine = unsure_parts(faults, group), group[0].is_in_fine
     if len(parts) == 1:
-        return replace(whole, is_unsure=parts[0][1], is_in_fine=is_in_fine)
+        return replace(whole, is_unsure=parts[0][1], is_in_fine=is_in_fine, is_trusted=group[0].is_trusted)
     several = [replace(_repair(faults, items, whole.at).another_way(), is_unsure=is_unsure) for items, is_unsure in parts]
     return replace(whole, is_in_fine=is_in_fine, parts=several)
 

@@ -38,6 +38,7 @@ class Repair:
     parts: List[Repair] = field(default_factory=list)  # the same edits in several repairs, which irig_guard can keep without each other
     is_unsure: bool = False  # nothing supports one of its control functions
     is_in_fine: bool = False  # it moves rises that are off, of frames that are fine, and does nothing else
+    is_trusted: bool = False  # it changes classes of sound frames, as most recordings have them
     ahead: int = 0  # pulses that begin before it in the track in which its own are counted
     seen: str = ""  # of a remark in the place of a repair: what is seen with the lines of that
     out: List[str] = field(default_factory=list)  # and these lines

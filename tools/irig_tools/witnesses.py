@@ -40,8 +40,9 @@ class Witness(NamedTuple):
 class Witnesses:
     """These frames by their times. Each is equal to itself alone, so that what is found with it can be kept by it."""
 
-    def __init__(self, frames: Mapping[TimeOfFrame, Sequence[Witness]]) -> None:
-        self.frames = frames
+    def __init__(self, frames: Mapping[TimeOfFrame, Sequence[Witness]], trusts_most: bool = False) -> None:
+        """If `trusts_most`, what most recordings have decides in a frame that is fine, too."""
+        self.frames, self.trusts_most = frames, trusts_most
 
     def inserted(self, layout: Layout) -> List[Fields]:
         """The times of those that show second 60."""
@@ -92,7 +93,7 @@ class Elsewhere:
     recorded otherwise."""
 
     def __init__(self, times: Times, witnesses: Witnesses) -> None:
-        self.times, self.elements = times, sorted(times.kept)
+        self.times, self.elements, self.trusts_most = times, sorted(times.kept), witnesses.trusts_most
         self._near: Dict[FrameNumber, List[Witness]] = {}
         self.rule = times.rule or (usual_rule_of(times.layout.control, texts_of_all(times, witnesses)) if witnesses.frames else None)
         self.contrary: Dict[FrameNumber, Witness] = {}  # frames of which nothing is taken: too much is recorded otherwise here
