@@ -1,0 +1,10 @@
+use Rattle.std.proofs.Common.{◌≡◌, length}
+use Rattle.irig_explain.specs.Nodes.{AreNodes}
+use Rattle.irig_explain.proofs.nodes.nodes.Given as goal
+
+-- all nodes so far
+abbrev pub invariant-loop-number : goal.invariant-loop-number
+invariant-loop-number g l = record {
+  all : length l.nodes.items ≡ l.number;
+  least : AreNodes (g.C.Costs.price l.costs) l.fn.rises l.nodes.items;
+}

@@ -1,0 +1,21 @@
+//! The cheapest explanation of the rises of a recording, and what all cheap explanations say.
+#![tactic(auto)]
+
+mod asked;
+mod bounds;
+mod claim;
+mod costs;
+mod ends;
+mod explanation;
+mod nodes;
+mod read_back;
+mod rises;
+mod tables;
+mod turned;
+
+pub use asked::Asked;
+pub use claim::{Claim, ELEMENTS, Kind};
+pub use costs::{Costs, Places};
+pub use explanation::{Explanation, explain};
+pub use rises::Rises;
+pub use tables::Tables;
