@@ -3,7 +3,7 @@ use Rattle.std.proofs.Common.{◌≡◌, ◌*◌, ◌/◌, ◌≤◌, ◌⊎◌,
 use Rattle.std.proofs.lemmas.Option.{slice_get_within}
 use Rattle.irig_explain.specs.declared.{rises.Rises.Rises, nodes.Node.Node}
 use Rattle.irig_explain.specs.Explanation.{Price}
-use Rattle.irig_explain.specs.Nodes.{CameFrom, IsNode, AreNodes}
+use Rattle.irig_explain.specs.Nodes.{CameFrom, IsNode, AreNodes, AreOfRises}
 
 -- what was there stays there
 pub stays : (xs ys : List Node) (u : ℕ) (m : Node) → slice_get xs u ≡ Some m → slice_get (xs ++ ys) u ≡ Some m
@@ -12,13 +12,21 @@ stays (x ∷ xs) ys zero m e = e
 stays (x ∷ xs) ys (suc u) m e = stays xs ys u m e
 
 -- what is there was there, or is the new one
-pub was_or_new : (xs : List Node) (x : Node) (v : ℕ) (m : Node) → slice_get (xs ++ x ∷ []) v ≡ Some m
+pub was_or_new : {X : Type 0} (xs : List X) (x : X) (v : ℕ) (m : X) → slice_get (xs ++ x ∷ []) v ≡ Some m
     → (slice_get xs v ≡ Some m) ⊎ ((v ≡ length xs) × (x ≡ m))
 was_or_new [] x zero m e = inr (refl, cc)
 was_or_new [] x (suc v) m e = absurd (cc)
 was_or_new (y ∷ ys) x zero m e = inl e
 was_or_new (y ∷ ys) x (suc v) m e =
     elim (was_or_new ys x v m e) [ inl h ↦ inl h | inr h ↦ let same : v ≡ length ys = h.0 in inr (omega arith, h.1) ]
+
+-- one more rise has a node
+pub rises_more : (bests : List ℕ) (w : ℕ) → AreOfRises bests → w / 100 ≡ length bests → AreOfRises (bests ++ w ∷ [])
+rises_more bests w are new = λ r v at.
+    elim (was_or_new bests w r v at) [
+      | inl was ↦ are r v was
+      | inr is ↦ let here = is.0 in let same = is.1 in omega (arith, new, here, same)
+    ]
 
 -- ways to a node come from those before
 came_still : (price : Price) (rises : Rises) (nodes : List Node) (x : Node) (v : ℕ) (n : Node) (from : Option ℕ)

@@ -5,7 +5,7 @@ use Rattle.irig_explain.specs.declared.{claim.Claim.Claim, claim.Kind.Kind, rise
 use Rattle.irig_explain.specs.Ends.{claim_of}
 use Rattle.irig_explain.specs.Explanation.{Price, AreClaims, cost_after}
 use Rattle.irig_explain.specs.Nodes.{AreNodes, CameFrom, way}
-use Rattle.irig_explain.specs.{Bounds.CostsWithout, Bounds.cost_at, Sure.GivesAfter, Sure.IsOther, Turned.turned, Turned.turned_node, Ways.OtherWayOver}
+use Rattle.irig_explain.specs.{Bounds.CostsWithout, Nodes.cost_at, Sure.GivesAfter, Sure.IsOther, Turned.turned, Turned.turned_node, Ways.OtherWayOver}
 use Rattle.irig_explain.proofs.ReadBack.{no_node, claim_as, any_kind, any_cost}
 
 -- the kind of the first claim says nothing of places

@@ -6,7 +6,7 @@ use Rattle.irig_explain.specs.declared.{claim.Claim.Claim, rises.Rises.Rises, no
 use Rattle.irig_explain.specs.Ends.{IsTable}
 use Rattle.irig_explain.specs.Explanation.{Price, IsClaim, AreClaims, IsExplanation, cost, cost_after}
 use Rattle.irig_explain.specs.Nodes.{AreNodes, Within, way}
-use Rattle.irig_explain.specs.{Bounds.NoStep, Bounds.OtherStep, Bounds.cost_at, Sure.Gives, Sure.GivesAfter, Turned.turned, Turned.turned_node}
+use Rattle.irig_explain.specs.{Bounds.NoStep, Bounds.OtherStep, Nodes.cost_at, Sure.Gives, Sure.GivesAfter, Turned.turned, Turned.turned_node}
 use Rattle.irig_explain.proofs.ReadBack.{no_node}
 use Rattle.irig_explain.proofs.Least.{node_of, rise_of, element_of, way_of, first_is}
 

@@ -4,7 +4,8 @@ use Rattle.std.proofs.Math.Nat.{mul-le-mul_left}
 use Rattle.std.proofs.lemmas.Option.{slice_get-get_or, get_or_from_slice_get}
 use Rattle.irig_explain.specs.declared.{claim.Kind.Kind, rises.Rises.Rises, nodes.Node.Node}
 use Rattle.irig_explain.specs.Explanation.{Price}
-use Rattle.irig_explain.specs.Nodes.{CameFrom, Within, Offered, way}
+use Rattle.irig_explain.specs.Nodes.{CameFrom, Looked, Within, known, way}
+use Rattle.irig_explain.proofs.ReadBack.{no_node}
 
 -- a cost at which all is passed over fits
 pub small_cost : (skip r cost : ℕ) → skip < 2 ^ 32 → r < 2 ^ 31 → cost ≤ skip * r → cost < 2 ^ 63
@@ -17,28 +18,33 @@ pub within_window : (rises : Rises) (u v : ℕ) → (v / 100 - rises.window) * 1
 within_window rises u v low high = record { later = omega arith; near = omega arith }
 
 -- one more node is looked at
-pub least_more : (price : Price) (rises : Rises) (nodes : List Node) (v i : ℕ) (best n d : Node)
-    → ((u : ℕ) (m : Node) (k : Kind) → u < i → slice_get nodes u ≡ Some m → Within rises u v → best.cost ≤ m.cost + way price u v k)
-    → Offered price (get_or nodes i d).cost i v best n
-    → (u : ℕ) (m : Node) (k : Kind) → u < i + 1 → slice_get nodes u ≡ Some m → Within rises u v → n.cost ≤ m.cost + way price u v k
-least_more price rises nodes v i best n d so_far o u m k h at w =
-    let P : ℕ → Type 0 = λ u. (m : Node) (k : Kind) → slice_get nodes u ≡ Some m → Within rises u v → n.cost ≤ m.cost + way price u v k in
+pub least_more : (price : Price) (rises : Rises) (nodes : List Node) (bests : List ℕ) (most v i : ℕ) (best n : Node)
+    → ((u : ℕ) (m : Node) (k : Kind) → u < i → slice_get nodes u ≡ Some m → Within rises u v → m.cost ≤ known nodes bests (u / 100) + most
+    → best.cost ≤ m.cost + way price u v k)
+    → Looked price nodes bests most i v best n
+    → (u : ℕ) (m : Node) (k : Kind) → u < i + 1 → slice_get nodes u ≡ Some m → Within rises u v → m.cost ≤ known nodes bests (u / 100) + most
+    → n.cost ≤ m.cost + way price u v k
+least_more price rises nodes bests most v i best n so_far o u m k h at w cheap =
+    let P : ℕ → Type 0 = λ u. (m : Node) (k : Kind) → slice_get nodes u ≡ Some m → Within rises u v → m.cost ≤ known nodes bests (u / 100) + most
+    → n.cost ≤ m.cost + way price u v k in
     below_more P i
-    (λ u h m k at w. omega (arith, so_far u m k h at w, o.kept))
-    (λ m k at w. let e = ap (λ (x : Node). x.cost) (get_or_from_slice_get nodes i m d at) in omega (arith, o.least k, e))
-    u h m k at w
+    (λ u h m k at w cheap. omega (arith, so_far u m k h at w cheap, o.kept))
+    (λ m k at w cheap.
+    let e = ap (λ (x : Node). x.cost) (get_or_from_slice_get nodes i m no_node at) in omega (arith, o.least (omega (arith, e, cheap)) k, e))
+    u h m k at w cheap
 
 -- and what was found came from somewhere
-pub backed_more : (price : Price) (rises : Rises) (nodes : List Node) (v i : ℕ) (best n d : Node) → i < length nodes → Within rises i v
+pub backed_more : (price : Price) (rises : Rises) (nodes : List Node) (bests : List ℕ) (most v i : ℕ) (best n : Node)
+    → i < length nodes → Within rises i v
     → MatchOption best.from (best.cost ≡ rises.skip * (v / 100)) (λ u. CameFrom price rises nodes v best u)
-    → Offered price (get_or nodes i d).cost i v best n
+    → Looked price nodes bests most i v best n
     → MatchOption n.from (n.cost ≡ rises.skip * (v / 100)) (λ u. CameFrom price rises nodes v n u)
-backed_more price rises nodes v i best n d lt w so_far o =
+backed_more price rises nodes bests most v i best n lt w so_far o =
     elim o.origin [
       | inl e ↦ subst (λ (x : Node). MatchOption x.from (x.cost ≡ rises.skip * (v / 100)) (λ u. CameFrom price rises nodes v x u)) (sym e) so_far
       | inr p ↦ subst (λ f. MatchOption f (n.cost ≡ rises.skip * (v / 100)) (λ u. CameFrom price rises nodes v n u)) (sym p.0) (record {
-        before = get_or nodes i d;
-        at = slice_get-get_or nodes i d lt;
+        before = get_or nodes i no_node;
+        at = slice_get-get_or nodes i no_node lt;
         within = w;
         cost = p.1;
       })

@@ -1,14 +1,10 @@
 -- What explanations cost that do not give an interval the place, in parts. This project's own.
-use Rattle.std.specs.Prelude.{ℕ, ◌≡◌, ◌+◌, ◌-◌, ◌*◌, ◌/◌, ◌<◌, ◌≤◌, ◌⊎◌, List, None, slice_index_or}
+use Rattle.std.specs.Prelude.{ℕ, ◌≡◌, ◌+◌, ◌-◌, ◌*◌, ◌/◌, ◌<◌, ◌≤◌, ◌⊎◌, List}
 use Rattle.irig_explain.specs.declared.{asked.Asked.Asked, claim.Kind.Kind, rises.Rises.Rises}
-use Rattle.irig_explain.specs.declared.{claim.Kind.TheVariants.Next, nodes.Node.Node}
+use Rattle.irig_explain.specs.declared.nodes.Node.{Node}
 use Rattle.irig_explain.specs.Explanation.{Price}
-use Rattle.irig_explain.specs.Nodes.{Within, way}
+use Rattle.irig_explain.specs.Nodes.{Within, cost_at, way}
 use Rattle.irig_explain.specs.Turned.{turned_node}
-
--- what a node costs
-abbrev pub cost_at : List Node → ℕ → ℕ
-cost_at nodes v = (slice_index_or nodes v (record { cost = 0; from = None; kind = Next })).cost
 
 -- an explanation ends at a node before the interval
 pub record EndsBefore (rises : Rises) (before : List Node) (a : Asked) (total : ℕ) : Type 0 where

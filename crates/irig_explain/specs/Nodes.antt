@@ -1,6 +1,7 @@
 -- The table of nodes: node 100 r + e is the claim that rise r is element e. This project's own.
-use Rattle.std.specs.Prelude.{ℕ, ◌≡◌, ◌+◌, ◌*◌, ◌/◌, ◌%◌, ◌<◌, ◌≤◌, ◌⊎◌, List, Some, MatchOption, slice_get}
+use Rattle.std.specs.Prelude.{ℕ, ◌≡◌, ◌+◌, ◌*◌, ◌/◌, ◌%◌, ◌<◌, ◌≤◌, ◌⊎◌, List, None, Some, MatchOption, slice_get, slice_index_or}
 use Rattle.irig_explain.specs.declared.{claim.Kind.Kind, rises.Rises.Rises}
+use Rattle.irig_explain.specs.declared.claim.Kind.TheVariants.{Next}
 use Rattle.irig_explain.specs.declared.nodes.Node.{Node}
 use Rattle.irig_explain.specs.Explanation.{Price}
 
@@ -34,6 +35,28 @@ pub record IsNode (price : Price) (rises : Rises) (nodes : List Node) (v : ℕ) 
 abbrev pub AreNodes : Price → Rises → List Node → Type 0
 AreNodes price rises nodes =
     (v : ℕ) (n : Node) → slice_get nodes v ≡ Some n → IsNode price rises nodes v n
+
+-- what a node costs
+abbrev pub cost_at : List Node → ℕ → ℕ
+cost_at nodes v = (slice_index_or nodes v (record { cost = 0; from = None; kind = Next })).cost
+
+-- each number is that of a node of the rise that is its place in the list
+abbrev pub AreOfRises : List ℕ → Type 0
+AreOfRises bests = (r w : ℕ) → slice_get bests r ≡ Some w → w / 100 ≡ r
+
+-- what the node of a rise costs that is in the list
+abbrev pub known : List Node → List ℕ → ℕ → ℕ
+known nodes bests r = cost_at nodes (slice_index_or bests r 0)
+
+-- a node, or the way to it from one before if that costs no more than the known one of its rise and
+-- a jump, whichever is cheaper
+pub record Looked (price : Price) (nodes : List Node) (bests : List ℕ) (most u v : ℕ)
+    (best n : Node) : Type 0 where
+  pub kept : n.cost ≤ best.cost
+  pub least : cost_at nodes u ≤ known nodes bests (u / 100) + most → (k : Kind)
+      → n.cost ≤ cost_at nodes u + way price u v k
+  pub origin : (n ≡ best)
+      ⊎ ((n.from ≡ Some u) × (n.cost ≡ cost_at nodes u + way price u v n.kind))
 
 -- a node, or the way to it from one before, whichever is cheaper
 pub record Offered (price : Price) (spent u v : ℕ) (best n : Node) : Type 0 where

@@ -2,8 +2,8 @@
 use Rattle.std.specs.Prelude.{ℕ, ◌≡◌, ◌+◌, ◌*◌, ◌/◌, ◌<◌, ◌≤◌, List}
 use Rattle.irig_explain.specs.declared.{asked.Asked.Asked, claim.Kind.Kind, rises.Rises.Rises}
 use Rattle.irig_explain.specs.declared.nodes.Node.{Node}
-use Rattle.irig_explain.specs.{Bounds.cost_at, Explanation.Price, Turned.turned_node}
-use Rattle.irig_explain.specs.Nodes.{Within, way}
+use Rattle.irig_explain.specs.{Explanation.Price, Turned.turned_node}
+use Rattle.irig_explain.specs.Nodes.{Within, cost_at, way}
 
 -- what a step between two nodes costs that gives the interval another place
 pub record OtherWay (price place : Price) (a : Asked) (base u v total : ℕ) : Type 0 where

@@ -31,4 +31,8 @@ impl<'a, C: Costs> Costs for Turned<'a, C> {
         };
         self.costs.price(before, after)
     }
+
+    fn most(&self) -> u32 {
+        self.costs.most()
+    }
 }

@@ -1,5 +1,5 @@
 use Rattle.std.proofs.Common.{◌≡◌, ◌⊎◌, ◌/◌, ◌<◌, ◌≤◌, ℕ}
-use Rattle.irig_explain.specs.{Bounds.ElsewhereTo, Bounds.cost_at, Turned.turned_node, Ways.OtherWayOver}
+use Rattle.irig_explain.specs.{Bounds.ElsewhereTo, Nodes.cost_at, Turned.turned_node, Ways.OtherWayOver}
 use Rattle.irig_explain.proofs.bounds.with_steps.Given as goal
 
 -- the least of those to the nodes so far

@@ -1,6 +1,6 @@
 use Rattle.std.proofs.Common.{◌≡◌, ◌⊎◌, ◌+◌, ◌/◌, ◌<◌, ◌≤◌, ◌*◌, ◌^◌, ℕ, inl, inr, sym, subst, arith, below_more}
 use Rattle.irig_explain.specs.Nodes.{Within}
-use Rattle.irig_explain.specs.{Bounds.Elsewhere, Bounds.cost_at, Ways.OtherWayTo}
+use Rattle.irig_explain.specs.{Bounds.Elsewhere, Nodes.cost_at, Ways.OtherWayTo}
 use Rattle.irig_explain.proofs.Placed.{cost_small}
 use Rattle.irig_explain.proofs.bounds.with_steps_to.Goals as goal
 

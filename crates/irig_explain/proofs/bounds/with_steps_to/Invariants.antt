@@ -1,6 +1,6 @@
 use Rattle.std.proofs.Common.{◌≡◌, ◌⊎◌, ◌+◌, ◌/◌, ◌<◌, ◌≤◌, ℕ}
 use Rattle.irig_explain.specs.Nodes.{Within}
-use Rattle.irig_explain.specs.{Bounds.Elsewhere, Bounds.cost_at, Ways.OtherWayTo}
+use Rattle.irig_explain.specs.{Bounds.Elsewhere, Nodes.cost_at, Ways.OtherWayTo}
 use Rattle.irig_explain.proofs.bounds.with_steps_to.Given as goal
 
 -- the least of those from the nodes so far

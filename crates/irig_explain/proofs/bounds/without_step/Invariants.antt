@@ -1,5 +1,5 @@
 use Rattle.std.proofs.Common.{◌+◌, ◌-◌, ◌*◌, ◌/◌, ◌<◌, ◌≤◌, ℕ}
-use Rattle.irig_explain.specs.{Bounds.CostsWithout, Bounds.cost_at, Turned.turned_node}
+use Rattle.irig_explain.specs.{Bounds.CostsWithout, Nodes.cost_at, Turned.turned_node}
 use Rattle.irig_explain.proofs.bounds.without_step.Given as goal
 
 -- the least of those that end or begin at the nodes so far

@@ -1,19 +1,14 @@
-use Rattle.std.proofs.Common.{◌∷◌, [], ap, length, sym, subst, arith}
+use Rattle.std.proofs.Common.{◌∷◌, [], ap, length, arith}
 use Rattle.std.proofs.lemmas.List.{length-append}
-use Rattle.irig_explain.specs.Nodes.{IsNode}
-use Rattle.irig_explain.proofs.Growing.{nodes_more}
+use Rattle.irig_explain.proofs.Growing.{rises_more}
 use Rattle.irig_explain.proofs.nodes.nodes.Goals as goal
 
-pub cheapest-node-requires-clause-nodes : goal.cheapest-node-requires-clause-nodes
-cheapest-node-requires-clause-nodes g c = rw c.as_slice.ensures.value c.loop-number.invariant.least
-
-pub loop-number-preserved : goal.loop-number-preserved
-loop-number-preserved g c =
-    let price = g.C.Costs.price c.args.costs.now in let rises = c.args.rises in
-    let nodes = c.loop-number.nodes.items in let n = c.cheapest-node.result in
-    let here = subst (λ xs. IsNode price rises xs c.loop-number.number n) c.as_slice.ensures.value c.cheapest-node.ensures in
-    let new = subst (λ v. IsNode price rises nodes v n) (sym c.loop-number.invariant.all) here in
+pub loop-rise-preserved : goal.loop-rise-preserved
+loop-rise-preserved g c =
+    let bests = c.loop-rise.bests.items in let w = c.in_ok-best.best in
     record {
-      all = omega (arith, ap length c.in_ok-push.ensures.items, length-append nodes (n ∷ []));
-      least = rw c.in_ok-push.ensures.items (nodes_more price rises nodes n c.loop-number.invariant.least new);
+      all = c.in_ok-best.ensures.all;
+      least = c.in_ok-best.ensures.least;
+      each = omega (arith, ap length c.in_ok-push.ensures.items, length-append bests (w ∷ []));
+      bests = rw c.in_ok-push.ensures.items (rises_more bests w c.loop-rise.invariant.bests (omega (arith, c.in_ok-best.ensures.best)));
     }
