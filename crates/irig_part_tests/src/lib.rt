@@ -8,6 +8,8 @@ mod dumps;
 #[cfg(test)]
 mod edges;
 #[cfg(test)]
+mod explanations;
+#[cfg(test)]
 mod gaps;
 #[cfg(test)]
 mod indexes;

@@ -1,0 +1,150 @@
+//! The cheapest explanation of ten rises, and the cost below which all explanations give an
+//! interval a place. Each rise looks like an element. The claims are worked out by hand, the bounds
+//! by `tests/reference/explanations.py`, which has no table of what comes after a claim.
+
+ghost use Rattle.std.specs.Prelude.{Bool, ◌≡◌};
+ghost use Rattle.irig_part_tests.specs.Looks.{kind_price, look_place, look_price};
+
+use irig_explain::{
+    Asked, Claim, Costs, ELEMENTS, Explanation, Kind, Places, Rises, Tables, explain,
+};
+use std::alloc::{AllocError, Global};
+use std::process::Abort;
+
+/// The elements that rises look like.
+struct Looks {
+    elements: &'static [usize],
+}
+
+/// What the kind of a step costs.
+fn price_of(kind: Kind, is_next: bool) -> u32
+    ensures { result ≡ kind_price kind is_next }
+{
+    match (kind, is_next) {
+        (Kind::Next, true) => 0,
+        (Kind::Next, false) => 50,
+        (Kind::Step, true) => 12,
+        (Kind::Step, false) => 60,
+        (Kind::Jump, _) => 16,
+    }
+}
+
+impl Costs for Looks {
+    ghost price = { λ l. look_price l.elements.now };
+
+    fn price(&self, from: Claim, to: Claim) -> u32 {
+        let between = to.rise.saturating_sub(from.rise).saturating_sub(1).min(9) as u32;
+        let look = if to.rise < self.elements.len() {
+            self.elements[to.rise]
+        } else {
+            100
+        };
+        let seen = if look == to.element { 0 } else { 20 };
+        let is_next = (from.element % ELEMENTS + 1) % ELEMENTS == to.element;
+        8 * between + seen + price_of(to.kind, is_next)
+    }
+
+    // Nine rises that are passed over, an unlike one, and the jump.
+    fn most(&self) -> u32 {
+        9 * 8 + 20 + 16
+    }
+}
+
+impl Places for Looks {
+    ghost place = { λ l r e q f k. look_place q f };
+
+    fn place(&self, _from: Claim, to: Claim) -> u64 {
+        ((to.element % ELEMENTS + ELEMENTS - to.rise % ELEMENTS) % ELEMENTS) as u64
+    }
+}
+
+/// Rise 3 is noise, and between rises 6 and 7 the element number jumps.
+const LOOKS: Looks = Looks {
+    elements: &[3, 4, 5, 77, 6, 7, 8, 40, 41, 42],
+};
+
+/// A step passes over one rise at most. A rise that is no element costs 8.
+const RISES: Rises = Rises {
+    count: 10,
+    window: 2,
+    skip: 8,
+};
+
+/// The rises of the cheapest explanation with their elements. It passes over rise 3 for 8, and
+/// jumps for 16.
+static CLAIMS: [(usize, usize); 9] = [
+    (0, 3),
+    (1, 4),
+    (2, 5),
+    (4, 6),
+    (5, 7),
+    (6, 8),
+    (7, 40),
+    (8, 41),
+    (9, 42),
+];
+
+/// An interval, a place, and the cost below which all explanations give it the place. The cheapest
+/// one costs 24, so a row of 24 says that the cheapest does not.
+static BOUNDS: [(usize, u64, u64); 12] = [
+    (0, 3, 32),
+    (1, 3, 40),
+    (2, 2, 40),
+    (3, 2, 48),
+    (4, 2, 48),
+    (5, 2, 32),
+    (6, 33, 32),
+    (7, 33, 32),
+    (8, 33, 32),
+    (0, 1, 24),
+    (2, 3, 24),
+    (6, 2, 24),
+];
+
+/// Whether an explanation has these claims at this cost.
+fn has(explanation: &Explanation, claims: &[(usize, usize)], cost: u64) -> bool {
+    let found = explanation.claims.as_slice();
+    if found.len() != claims.len() || explanation.cost != cost {
+        return false;
+    }
+    for index in 0..found.len() {
+        if (found[index].rise, found[index].element) != claims[index] {
+            return false;
+        }
+    }
+    true
+}
+
+/// Whether the cheapest explanation is the same with one table and with both.
+fn is_cheapest(alloc: Global) -> Result<bool, AllocError> {
+    let alone = explain(alloc, &LOOKS, RISES)?;
+    let tables = Tables::build(alloc, &LOOKS, RISES)?;
+    let both = tables.explain(alloc)?;
+    Ok(has(&alone, &CLAIMS, 24) && has(&both, &CLAIMS, 24))
+}
+
+// The costs are those of the rows.
+#[test]
+fn the_cheapest_passes_over_noise_and_jumps(rt: HostRuntime) {
+    assert!(&rt; is_cheapest(rt.alloc()) == Ok(true));
+}
+
+/// Whether the bound of each row is the answer.
+fn are_bounds(alloc: Global) -> Result<bool, AllocError> {
+    let tables = Tables::build(alloc, &LOOKS, RISES)?;
+    for (interval, place, bound) in &BOUNDS {
+        let asked = Asked {
+            interval: *interval,
+            place: *place,
+        };
+        if *interval >= 10 || tables.sure_below(asked) != *bound {
+            return Ok(false);
+        }
+    }
+    Ok(true)
+}
+
+#[test]
+fn below_the_bound_all_give_the_place(rt: HostRuntime) {
+    assert!(&rt; are_bounds(rt.alloc()) == Ok(true));
+}
