@@ -1,5 +1,5 @@
-"""What the cheapest explanation of some rises costs, and the bound below which all explanations give an interval a place. Run, it prints the
-rows of `crates/irig_part_tests/src/explanations.rt`.
+"""What the cheapest explanation of some rises costs, and the bound below which all explanations give an interval a place. Run, it prints
+the rows of `crates/irig_part_tests/src/explanations.rt`.
 
 It goes forward over all claims, and has no table of what comes after a claim. The bound is the cost of the cheapest explanation if each
 step over the interval is forbidden that gives it the place.

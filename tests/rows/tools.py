@@ -670,7 +670,7 @@ def helps(top, tool):
     status, said, _ = run(top, tool + " --help")
     yield same(tool + " --help", (status, said[: 7 + len(tool)]), (0, "usage: " + tool))
     full = run(top, tool + " --help > /dev/full")
-    yield same(tool + " --help on a full device", full, (2, "", tool + ": No space left on device"))
+    yield same(tool + " --help on a full device", full, (2, "", tool + ": standard output: No space left on device"))
 
 
 def no_line_refused(top):

@@ -228,7 +228,7 @@ def options_of_a_script():
     def holds():
         for words, head in (
                 ("rec.vcd", "# for irig_ed --format=B --expression=7"), ("--expression=4 rec.vcd", "# frame"),
-                ("two.vcd", "# for irig_ed --wire=! --format=B --expression=7"),
+                ("two.vcd", "# for irig_ed '--wire=!' --format=B --expression=7"),
                 ("--expression=4 --timescale=1us --dump=1 rec.vcd",
                  "# for irig_ed --expression=4 and the dump of irig_wire --timescale=1us --dump=1"),
                 ("sound.vcd", "")):
@@ -680,4 +680,5 @@ def cases(top):
     return [*(case("apply: " + row[0], applied, *row) for row in APPLIED),
             *(case("apply: " + part.__name__, part)
               for part in (into, not_read, options_of_a_script, late_times, saved, page_alone, one_line, cut, growing, upside_down, steady,
-                           guarded, unjudged, listings, outside, named, places_that_became, guesses, filled, refused, objects, ends, kinds))]
+                           guarded, unjudged, listings, outside, named, places_that_became, guesses, filled, refused, objects, ends,
+                           kinds))]

@@ -138,7 +138,7 @@ def complaints(top):
 
 
 def names(top):
-    """A file name with a byte that is no letter is printed as it is. The editor takes no such name, so a dump is made first."""
+    """A file name with a byte that is no letter is printed as sh makes it. The editor takes no such name, so a dump is made first."""
     with tempfile.TemporaryDirectory() as folder:
         filled(folder)
         path = os.path.join(os.fsencode(folder), b"n\xff.vcd")
@@ -147,7 +147,7 @@ def names(top):
         status, printed, said = shell(top, folder, 'python3 "$(command -v irig_what)" n\udcff.vcd', PYTHONIOENCODING="utf-8:strict")
         last = printed.splitlines()[-1:]
         good = (status, said) == (0, "") and last == [
-            "irig_wire 'n\udcff.vcd' > one.vcd && irig_ed --format B --expression 2 --out new.vcd one.vcd"]
+            "irig_wire \"$(printf 'n\\377.vcd')\" > one.vcd && irig_ed --format B --expression 2 --out new.vcd one.vcd"]
         good or print("FAILED a name that is no UTF-8: %d %s %s" % (status, last, said))
         yield good
 

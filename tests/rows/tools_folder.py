@@ -349,12 +349,12 @@ def looked_into():
 
 def one_line_each():
     """A name or a reason with a newline stays a line of the table, and no cell of the report is a formula."""
-    result = results.Result("=1\n2.vcd", "=1\n2.vcd", 1, ["+a\nb", "c"], "@code", "B", -4, {name: -1 for name in results.COUNTS})
-    yield same("the reason", results.reason_of(result), r"=1\n2.vcd: +a\nb (and 1 more)")
+    result = results.Result("=1\n2.vcd", "=1\n2.vcd", 1, ["+a\nb", "-c\nd"], "@code", "B", -4, {name: -1 for name in results.COUNTS})
+    yield same("the reason", results.reason_of(result), r"=1\n2.vcd: -c\nd (and 1 more)")
     yield same("the table", len(results.table_of_all([result]).splitlines()), 4)
     cells = list(csv.reader(io.StringIO(results.report_of([result]).decode())))[1]
     yield same("the report", [cell for cell in cells if not cell.isdigit()],
-               [r"'=1\n2.vcd", r"'=1\n2.vcd", "'@code", "B", "-4", *["-1"] * len(results.COUNTS), r"'+a\nb; c"])
+               [r"'=1\n2.vcd", r"'=1\n2.vcd", "'@code", "B", "-4", *["-1"] * len(results.COUNTS), r"'+a\nb; -c\nd"])
 
 
 def record_of_its_own():

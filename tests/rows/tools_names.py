@@ -49,12 +49,12 @@ def printed_names(path, given):
 def commands(name, path):
     """Each command that takes a wire, with this one: all is sound."""
     wire, words = "--wire=" + name, [*CODE, path]
-    for program, arguments in ((os.environ["IRIG_ED"], ["--out", "/dev/null", *words]), (TIME, words), (GUARD, words),
+    for program, arguments in ((os.environ["IRIG_ED"], ["--out", "/dev/null", *words]), (TIME, ["--quiet", *words]), (GUARD, words),
                                (DIFF, [path, path + ".one"])):
         done = subprocess.run([program, wire, *arguments], stdin=subprocess.DEVNULL, capture_output=True, check=False)
         yield os.path.basename(program), done.returncode, done.stderr.decode()
-    for tool in ("irig_damage", "irig_mend", "irig_align"):
-        status, _, said = run(tool, [wire, *words])
+    for tool, quiet in (("irig_damage", []), ("irig_mend", []), ("irig_align", ["--quiet"])):
+        status, _, said = run(tool, [wire, *quiet, *words])
         yield tool, status, said
     status, _, said = run("irig_wire", [path, name, "--out", path + ".again"])
     yield "irig_wire", status, "" if status == 0 else said
@@ -86,7 +86,7 @@ def several():
             file.write(text)
         said = run("irig_mend", [path])[2]
         named = re.findall(r"[:,] (\S+) \(path [ab]\.irig\)", said)
-        listed = re.findall(r"\\n  (\S+) \(", run("irig_wire", [path, "irig"])[2])
+        listed = re.findall(r"\n  (\S+) \(", run("irig_wire", [path, "irig"])[2])
         run("irig_wire", [path, "!", "--out", path + ".one"])
         bad = [(each, *ended) for each in named + listed for ended in commands(each, path) if ended[1:] != (0, "")]
     good = not bad and len(named) == len(listed) == 2

@@ -159,7 +159,7 @@ def of_set_clocks():
 
 
 def with_a_pause(kind, pause):
-    """A recorder stops in frame 12 for so many seconds, and its clock with it."""
+    """A recorder stops in frame 12 for that many seconds, and its clock with it."""
     frame, period = 100 * timecode.INTERVAL[kind], timecode.INTERVAL[kind] // 100
     stop = 12 * frame + 123456 * frame // 1000000
     start = stop + round(1000000 * pause)

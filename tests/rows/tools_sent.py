@@ -609,9 +609,9 @@ def of_no_time():
             yield same(name + ", explained", run_on(folder, *options, "--explain", path)[0], int(is_damaged or bool(why)))
         status, lines = run_on(folder, "--format=B", "--expression=2", "--apply-to", "out", "in")
         reasons = [line.partition(": ")[::2] for line in lines if " after the repair: " in line]
-        yield same("a folder", (status, lines[-1].partition(";")[0]),
-                   (1, "5 recordings: 2 whole, 3 with damage left, 0 not repaired"))
-        yield same("a folder, the reasons", [(name, why.partition(" after")[0]) for name, why in reasons], [("set.vcd", NO_SUPPORT)])
+        yield same("a folder", (status, lines[-1].partition(";")[0]), (1, "5 recordings: 2 whole, 3 with damage left, 0 not repaired"))
+        yield same("a folder, the reasons", [(name, why.partition(" after")[0]) for name, why in reasons],
+                   [("hole.vcd", NO_FRAME), ("short.vcd", NO_FRAME), ("set.vcd", NO_SUPPORT)])
 
 
 # 12: samples that a repair would leave without a time

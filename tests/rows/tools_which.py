@@ -7,7 +7,7 @@ import subprocess
 from array import array
 from unittest import mock
 
-from built import TOP
+from built import TIME, TOP
 from cases import case
 from irig_tools import every_column, table
 from rows.in_process import run
@@ -90,7 +90,7 @@ def chain_of_commands():
         with open("new.vcd", "w", encoding="ascii") as file:
             file.write("kept")
         command = run("irig_what", ["rec.csv"])[1].decode().splitlines()[-1]
-        path = os.pathsep.join([os.path.join(TOP, "tools"), os.path.dirname(os.environ["IRIG_ED"]), os.environ["PATH"]])
+        path = os.pathsep.join([os.path.join(TOP, "tools"), os.path.dirname(TIME), os.environ["PATH"]])
         done = subprocess.run(command, shell=True, env={**os.environ, "PATH": path}, capture_output=True, text=True, check=False)
         yield same("the status", (done.returncode, text_of("new.vcd")), (0, "kept"))
         lines = text_of("timed.txt").splitlines()

@@ -801,6 +801,11 @@ def of_most():
     name = {"0": "zero", "1": "one"}
     yield same("its reason", reason, "a %s as recorded in B.vcd at %s and C.vcd at %s, as most recordings have it" % (
         name[there], place_of(two[0], LOST), place_of(two[1], LOST)))
+    yield from of_most_applied(pulses, two, "%d wide, a %s; " % ({"0": 2000, "1": 5000}[here], name[here]) + reason)
+
+
+def of_most_applied(pulses, two, reason):
+    """The recording, with other damage that has to be repaired and a rise that is late, is written so, and a line says it."""
     late(pulses, LOST + 205, 600)
     lost = [pulse for at, pulse in enumerate(pulses) if at != 420]
 
@@ -809,10 +814,9 @@ def of_most():
         status, printed, _ = mend(*words)
         yield same("without it", (status, [line.partition("rec.vcd: ")[2][:7] for line in printed[1:]]), (1, ["differs", "undecid"]))
         status, printed, _ = mend(*words, "--trust-most")
-        line = "trusted: at 10630000: frame 2024-115T12:00:10, element 63, pulse 1064: %d wide, a %s; " % (
-            {"0": 2000, "1": 5000}[here], name[here])
-        yield same("with it", (status, [each.partition("rec.vcd: ")[2] for each in printed[1:2]]), (1, [line + reason.replace("B", "b", 1)
-                   .replace("C", "c", 1)]))
+        line = "trusted: at 10630000: frame 2024-115T12:00:10, element 63, pulse 1064: " + reason
+        yield same("with it", (status, [each.partition("rec.vcd: ")[2] for each in printed[1:2]]),
+                   (1, [line.replace("B", "b", 1).replace("C", "c", 1)]))
         wanted = [list(pulse) for pulse in code()]
         late(wanted, LOST + 205, 600)
         yield same("what is written", edges(text_of("new.vcd")) == edges(dump(wanted)), True)

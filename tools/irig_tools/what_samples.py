@@ -1,13 +1,12 @@
 """Says which column of a table, or which channel of a sound file, has time code, and how to continue."""
 from __future__ import annotations
 
-import shlex
 from dataclasses import dataclass
 from itertools import islice
 from typing import Dict, Iterator, List, Optional, Sequence, Tuple
 
 from .editor import Problem
-from .ending import ESCAPED
+from .escapes import in_command, in_line
 from .every_column import LanePart, every_column
 from .lanes import MOST_LOOKED, KeptSamples, Lane, lane_of, write_lanes
 from .proposal import free_name, no_option
@@ -39,7 +38,7 @@ class CodeLane:
     def lines(self) -> List[str]:
         side = "upside down" if self.carrier.inverted else "upright"
         how = "on a carrier" if self.lane.is_carrier else side
-        return ["%s, %s, format %s" % (self.lane.text.translate(ESCAPED), how, self.carrier.kind), *self.carrier.lines()[1:]]
+        return ["%s, %s, format %s" % (in_line(self.lane.text), how, self.carrier.kind), *self.carrier.lines()[1:]]
 
     def as_object(self, command: str) -> Dict[str, object]:
         """For a program."""
@@ -52,7 +51,7 @@ class CodeLane:
         aside = ["--samples", data] if has_others else []
         words = [["irig_demodulate", *self.words, *aside, "--out", track, no_option(name)],
                  ["irig_mend", *code, "--apply", free_name("new.vcd"), track]]
-        chain = " && ".join(" ".join(map(shlex.quote, each)) for each in words)
+        chain = " && ".join(" ".join(map(in_command, each)) for each in words)
         if not has_others:
             return chain
         return "%s && irig_time %s < %s > %s" % (chain, " ".join([*code, free_name("new.vcd")]), data, free_name("timed.txt"))

@@ -4,7 +4,7 @@ from __future__ import annotations
 from typing import List, NamedTuple, Optional
 
 from .editor import Problem
-from .ending import ESCAPED
+from .escapes import in_line
 from .every_column import every_column
 from .what_samples import Lanes
 
@@ -29,7 +29,7 @@ def which_column(path: str, time: Optional[str], rate: int) -> Chosen:
     if not found:
         raise Problem(NONE % (path, len(table.columns)))
     if len(found) > 1:
-        raise Problem(SEVERAL % (path, ", ".join(each.lane.text.translate(ESCAPED) for each in found), path))
+        raise Problem(SEVERAL % (path, ", ".join(in_line(each.lane.text) for each in found), path))
     words = " ".join(found[0].words[1:])
     return Chosen(found[0].words, "%s has time code of format %s: %s" % (
-        found[0].lane.text.translate(ESCAPED), found[0].carrier.kind, words.translate(ESCAPED)))
+        in_line(found[0].lane.text), found[0].carrier.kind, in_line(words)))
