@@ -5,9 +5,10 @@ the tolerance of irig_ed, which reads a frame only if each rise is within a tent
 it); a probability (EIGHT_OF_TEN, NINE_OF_TEN, CHANCE, CHANCES); the reasons in the tables of docs/METHOD.md (the costs); or
 the end of a search (what says `most`, `longest` or `search`). `[28, 26]`: halved and doubled (of a small whole number one
 less and one more), that many first looks at 332 recordings at random are others; from UPSIDE_DOWN on at 99, and from ROUNDS
-on that many scripts. Those without it changed none: tests/rows/tools_parts.py has rows for the rarer faults they are for. The
-numbers of clocks that wander, of rises that are off, of other code and of other recordings were not varied so; docs/METHOD.md
-has those that were tried.
+on that many scripts. Those without it changed none: tests/rows/tools_parts.py has rows for the rarer faults they are for. `[1, 4 of 58]`:
+of that many other recordings. 58 and 34 wander, jitter or have holes with other code; 48 are holes with this code or another, thinned out;
+12 have wow or flutter; 30 have late rises. As they are, 1,350 places of the 58 are filled, none is a tenth of an interval off, and no
+sound pulse is moved; half of WANDER_STEP or CLEARLY_BETTER moves one, half of ABOVE_NINE_OF_TEN fills 150 places fewer.
 """
 
 # the clock (interval)
@@ -42,31 +43,31 @@ SOME_PULSES = 200  # pulses that are looked at for that, so that the search stay
 ON_SAMPLE = 0.8  # the share of their edges that has to be whole samples after the beginning: the others are damaged or repaired
 ON_GRID = 0.5  # the share of lengths, and of what distances are off, that has to be whole samples: what is repaired is not
 SIDE = 5  # pulses on each side of a step [0, 1]
-STRAY_SEEN = 8  # a rise is damage if it is off by more than that many times the spread of the distances: no chance puts it there
-SAMPLES_OFF = 3  # and by more than that many samples of the recorder
+STRAY_SEEN = 8  # a rise is damage if it is off by more than that many times the spread: no chance puts it there [0, 0 of 34]
+SAMPLES_OFF = 3  # and by more than that many samples of the recorder [3, 3 of 30]
 
 # a clock that wanders (wander, interval)
 REACHES = ((15, 100), (15, 48), (15, 24), (9, 16), (7, 12))  # pulses at an end that say its rise and its interval, if one of these is best
-LEAST_LOCAL = 12  # pulses that have an interval of their own
-BESIDE = 24  # pulses on each side of a hole that is tried where there is none
+LEAST_LOCAL = 12  # pulses that have an interval of their own [1, 11 of 58]
+BESIDE = 24  # pulses on each side of a hole that is tried where there is none [3, 3 of 34]
 HOLES_TRIED = (1, 12, 40)  # elements of the holes by which the reach is chosen
 HOLES_MEASURED = (1, 3, 6, 9, 12, 16, 20, 25, 32, 40, 50, 63, 80, 100, 126, 160, 200, 250, 320, 400)  # and that say how far all is off
-LENGTHS = 4  # and up to a quarter longer, so that it does not count how many turns of a wow are in it
-PLACES_TRIED = 60  # of each, all over the recording: more change nothing, and take time
-FEWEST_TRIED = 8  # fewer say nothing
-BY_TREMBLING = 0.6  # of the noise: a steady clock is off by no more after a hole; of rises that tremble by chance it is a third
-HALF_SIDE = 2  # pulses on each side of one that say with it where it has to be
-CLEARLY_BETTER = 0.8  # of what a steady clock would be off: by chance another reach is better by a tenth
-ABOVE_NINE_OF_TEN = 1.5  # times what nine of ten holes are within: no more than one of a hundred is beyond if they are spread as by chance
-BLOCK = 8  # distances that have an interval of their own: of flutter a period is no shorter
-CURVE_SEEN, PARTS_SEEN = 400, 40  # distances of a part, and how many parts: does the interval change from block to block?
-CURVED = 0.7  # of the noise: a block of 8 alone is a tenth nearer
-WANDER_STEP = 0.01  # intervals: a smaller step is not seen on such a clock: a pulse that is inserted in a hole can be off by that
-MOST_WANDER = 12  # intervals: how far a rest may be off after a hole on a clock that wanders, if the others say the phase
-VAGUE = 0.1  # intervals: an element that can be more off in a hole is not put there: irig_ed would not read it either
+LENGTHS = 4  # and up to a quarter longer, so that it does not count how many turns of a wow are in it [0, 0 of 12]
+PLACES_TRIED = 60  # of each, all over the recording: more change nothing, and take time [1, 0 of 34]
+FEWEST_TRIED = 8  # fewer say nothing [0, 0 of 12]
+BY_TREMBLING = 0.6  # of the noise: a steady clock is off by no more after a hole; of rises that tremble it is a third [0, 1 of 34]
+HALF_SIDE = 2  # pulses on each side of one that say with it where it has to be [0, 0 of 12]
+CLEARLY_BETTER = 0.8  # of what a steady clock would be off: by chance another reach is better by a tenth [5, 1 of 58]
+ABOVE_NINE_OF_TEN = 1.5  # times what nine of ten holes are within: by chance no more than one of a hundred is beyond [2, 2 of 58]
+BLOCK = 8  # distances that have an interval of their own: of flutter a period is no shorter [1, 1 of 34]
+CURVE_SEEN, PARTS_SEEN = 400, 40  # distances of a part, and how many parts: does the interval change from block to block? [0, 0 of 6]
+CURVED = 0.7  # of the noise: a block of 8 alone is a tenth nearer [1, 4 of 58]
+WANDER_STEP = 0.01  # intervals: a smaller step is not seen on such a clock: an inserted pulse can be off by that [2, 1 of 58]
+MOST_WANDER = 12  # intervals: how far a rest may be off after a hole on a clock that wanders, if the others say the phase [0, 0 of 58]
+VAGUE = 0.1  # intervals: an element that can be more off in a hole is not put there: irig_ed would not read it either [0, 0 of 58]
 CHANGED_AT_ONCE = 1 / 8  # of the change, by element: the curve is off by that in the middle if the interval changes there at once
-ALIASED = 0.4  # intervals: if all could be so much off, a pulse there can be that of the next element
-LOCAL_STRAY = 0.09  # intervals: how far one rise between runs may be off there
+ALIASED = 0.4  # intervals: if all could be so much off, a pulse there can be that of the next element [0, 0 of 34]
+LOCAL_STRAY = 0.09  # intervals: how far one rise between runs may be off there [0, 0 of 34]
 LONG_RUN = 40  # pulses of a run that can have two phases, or whose position identifiers say its phase
 
 # phases
@@ -164,9 +165,9 @@ ALIKE_IN_COPY = 2  # and at least one in that many that is the same: the rest ca
 LEAST_COPY = 10  # elements; fewer are alike by chance
 
 # other code in a hole (other_code)
-STEADY_CODE = 0.8  # the share of its distances that are one interval: others are damaged, or the marker of a frame
-OWN_POSITIONS = 3  # position identifiers in their places, and none elsewhere, show what is left of this code: no steady signal has these
-THINNED_CODE = 0.5  # the same if some pulses are lost, so that distances are two of its intervals and more
+STEADY_CODE = 0.8  # the share of its distances that are one interval; 0.7 takes 3 of 150 holes of this code for other, 0.8 one [1, 0 of 34]
+OWN_POSITIONS = 3  # position identifiers in their places, and none elsewhere, are this code; with less one wide pulse would be [6, 2 of 48]
+THINNED_CODE = 0.5  # the same if some pulses are lost, so that distances are two of its intervals and more [0, 1 of 34]
 
 # what is wrong (faults, edits, wholes, repairs)
 LIKE = 0.08  # intervals: a level that differs from a class for less is this class: two classes are 0.3 apart [1, 0]
