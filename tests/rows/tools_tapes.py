@@ -148,7 +148,7 @@ def slowly(seed):
 
 
 def whole():
-    """Prints the rates on large samples, as docs/WAY_IN.md has them."""
+    """Prints the rates on large samples, as bench/README.md has them."""
     for name, make, decibels, _, signals, _ in KINDS:
         counted = rate(name, make, decibels, signals)
         print("| %s | %d dB | %d | %d | %d | %d | %d | %d |" % (
