@@ -96,22 +96,26 @@ def instant(time, year, leap):
     return (((days + time.days) * 24 + time.hours) * 60 + time.minutes) * 60_000_000 + time.micros
 
 
+def passed(one, other):
+    """How many microseconds the second time is after the first, in the calendar; None if its year is neither the same nor the next one."""
+    if one.year is None:
+        years = (0, int(other[1:] < one[1:]))
+    elif (other.year - one.year) % 100 > 1:
+        return None
+    else:
+        years = (one.year, one.year + (other.year - one.year) % 100)
+    micros = instant(other, years[1], one.days == 366) - instant(one, years[0], False)
+    is_longer = one.micros >= MINUTE > other.micros and one[1:4] != other[1:4]  # the minute of the first has 61 seconds
+    return micros + 1_000_000 if is_longer else micros
+
+
 def agrees(kind, one, other):
     """Whether the second frame is as many frame periods after the first as their distance shows."""
     period, distance = PERIOD[kind], other.rise - one.rise
     if 1000 * period <= 10 * period + 2 * distance:  # a thousandth of it and half an interval are half a period
         return False
-    if one.time.year is None:
-        turns = int(other.time[1:] < one.time[1:])
-        years = (0, turns)
-    else:
-        if (other.time.year - one.time.year) % 100 > 1:
-            return False
-        years = (one.time.year, one.time.year + (other.time.year - one.time.year) % 100)
-    passed = instant(other.time, years[1], one.time.days == 366) - instant(one.time, years[0], False)
-    if one.time.micros >= 60_000_000 > other.time.micros and one.time[1:4] != other.time[1:4]:
-        passed += 1_000_000
-    return passed > 0 and passed % period == 0 and 2 * abs(passed - distance) < period
+    micros = passed(one.time, other.time)
+    return micros is not None and micros > 0 and micros % period == 0 and 2 * abs(micros - distance) < period
 
 
 def believed(options, frames):
