@@ -215,6 +215,12 @@ def hole(draft: Draft) -> None:
     draft.event(kind, begin + draft.random.random() * long, draft.random.uniform(0, 0.5) * draft.format.interval)
 
 
+def gap(draft: Draft) -> None:
+    """A hole of 0.05 to 8 frames, in which nothing is lost."""
+    begin = draft.any_place()
+    draft.silence(begin, begin + draft.random.uniform(0.05, 8) * draft.format.frame)
+
+
 def slip(draft: Draft) -> None:
     """The recorder loses 0.2 to 40 intervals, in half of the cases next to other damage."""
     place = draft.any_place()
@@ -249,6 +255,21 @@ def frameslip(draft: Draft) -> None:
     draft.event("lose", place, draft.random.randint(1, 5) * draft.format.frame * (1 + draft.clock.fast))
     if draft.random.random() < 0.5:
         draft.some_damage(1, 2, place)
+
+
+def tens(draft: Draft) -> None:
+    """Ten to ninety intervals are lost, by tens; other damage next to it in half of the cases."""
+    place = draft.any_place()
+    draft.event("lose", place, 10 * draft.random.randint(1, 9) * draft.format.interval * (1 + draft.clock.fast))
+    if draft.random.random() < 0.5:
+        draft.some_damage(1, 2, place)
+
+
+def two(draft: Draft) -> None:
+    """The recorder loses 0.2 to 40 intervals twice, within three frames."""
+    place = draft.any_place()
+    for each in (place, place + draft.random.uniform(0.01, 3) * draft.format.frame):
+        draft.event("lose", each, whole_or_any(draft, 0.2, 40))
 
 
 def bursts(draft: Draft) -> None:
@@ -381,6 +402,9 @@ KINDS: Dict[str, Kind] = {
     "leap": Kind(leap, at_leap, "ABG"),
     "noise": Kind(nothing, bursts),
     "undamaged": Kind(nothing, nothing),
+    "gap": Kind(nothing, gap),
+    "tens": Kind(nothing, tens),
+    "two": Kind(nothing, two),
 }
 TABLE = ("one", "many", "slip", "hole", "off", "sweep", "parity")  # those of the table in docs/ALIGN.md
 
