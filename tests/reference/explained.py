@@ -1,0 +1,361 @@
+"""From the cheapest explanation of a recording to the times of its samples: elements counted on, the time of each frame by the same
+recursion over frames, and the time of a moment between two rises. It reads no year: day 365 can be followed by day 1 or 366.
+"""
+from __future__ import annotations
+
+import heapq
+from bisect import bisect_right
+from typing import Dict, FrozenSet, List, NamedTuple, Optional, Sequence, Set, Tuple
+
+from reference import timecode
+from reference.explanation import BIT, JUMPS, NEXT, PART, POSITION, SURE, UNUSED, Given, Prices, Pulse, Tables, logarithm, margins
+
+SET = 176  # the time of the code jumps, and the logarithm of how many frames by: whole frames are lost, or a clock is set
+OTHER = 224  # a time of a frame that is no candidate
+LEAST_CONTRADICTS, CONTRADICTS = 16, 80  # an element of the time that looks like the other class: found between both
+KNOWN = 64  # a frame that costs no more has its time among the candidates
+ENOUGH = 640  # evidence of that much is looked at for a time
+WINDOWS = (32, 8, 1)  # frames
+BEAM = 12  # times kept from each field to the next finer one
+AROUND = 8  # elements on each side by which a rise is on the line
+SPANS = 8  # of a length that say how steady the clock is
+LONGEST = 1 << 10  # elements of a span
+OFF = 20  # a time is off by at most so small a part of an interval
+DAY, MINUTE = 24 * 60 * 6000, 6000  # hundredths of a second
+
+
+class Code:
+    """A format and expression: times are counted in frames from the begin of a year of 366 days."""
+
+    def __init__(self, kind: str, expression: int) -> None:
+        self.period = timecode.INTERVAL[kind] // 100  # hundredths of a second
+        self.kind = kind
+        fields: Dict[str, List[List[Tuple[int, int]]]] = timecode.layout(kind, expression)
+        used = {element for digits in fields.values() for rows in digits for element, _ in rows}
+        self.roles = [POSITION if e in timecode.PLACES_OF_POSITIONS else BIT if e in used else UNUSED for e in range(100)]
+        self.fields = {name: digits for name, digits in fields.items() if name not in ("year", "control")}
+        self.bits = sorted(element for digits in self.fields.values() for rows in digits for element, _ in rows)
+        self.minute, self.day = MINUTE // self.period, DAY // self.period
+        self.year = 366 * self.day
+        self._ones: Dict[int, FrozenSet[int]] = {}
+
+    def values(self, time: int) -> Dict[str, int]:
+        day, rest = divmod(time % self.year * self.period, DAY)
+        return {"days": day + 1, "hours": rest // 360000, "minutes": rest // 6000 % 60, "seconds": rest // 100 % 60,
+                "hundredths": rest % 100, "sbs": rest // 100}
+
+    def ones(self, time: int) -> FrozenSet[int]:
+        """The elements of the frame's time that are one."""
+        time %= self.year
+        if time not in self._ones:
+            values = self.values(time)
+            self._ones[time] = frozenset(
+                element for name, digits in self.fields.items() for rows in digits for element, weight in rows
+                if (values[name] if name == "sbs" else values[name] // rows[0][1] % 10) & weight // rows[0][1])
+        return self._ones[time]
+
+    def far(self, time: int, other: int) -> int:
+        """How many frames apart a frame's time is from that which comes after another; day 365 can be the last one."""
+        after = [time + 1]
+        if (time + 1) % self.year == 365 * self.day:
+            after.append(0)
+        apart = [(other - each) % self.year for each in after]
+        return min(min(each, self.year - each) for each in apart)
+
+
+class Frame:
+    """A frame of a stretch: for each element what a zero costs, and a one, beyond the cheaper one."""
+
+    def __init__(self, stretch: int, number: int) -> None:
+        self.stretch = stretch
+        self.number = number
+        self.costs: List[Tuple[int, int]] = [(0, 0)] * 100
+        self.base: Optional[int] = None  # the time of frame 0 of the stretch, if this one's time is sure
+        self.best: Optional[int] = None
+        self.own = 0
+
+    def cost(self, code: Code, base: int) -> int:
+        ones = code.ones(base + self.number)
+        return sum(self.costs[element][element in ones] for element in code.bits)
+
+
+class Known(NamedTuple):
+    """A claim of a stretch: its element counted on, and its rise."""
+
+    count: int
+    rise: int
+
+
+class Times:
+    """The times that the cheapest explanation of a recording gives, of those that are sure."""
+
+    def __init__(self, pulses: Sequence[Pulse], kind: str, expression: int) -> None:
+        self.code = Code(kind, expression)
+        self.prices = Prices(pulses, timecode.INTERVAL[kind], self.code.roles)
+        self.rises = self.prices.rises
+        tables = Tables(self.prices)
+        self.claims = tables.explain()
+        self.margins = margins(tables, Given(self.prices, self.claims))
+        self.cost = tables.cost
+        self.stretches: List[List[Known]] = []
+        self.frames: List[Frame] = []
+        self._count()
+        self._line()
+        self._judge()
+
+    # -- the elements
+
+    def _count(self) -> None:
+        looks: List[Tuple[int, int, Tuple[int, int, int]]] = []  # a stretch, an element counted on, its look
+        for number, claim in enumerate(self.claims):
+            if not number or claim.kind == JUMPS:
+                self.stretches.append([])
+                count = claim.element
+            else:
+                count += self._ahead(number)
+            self.stretches[-1].append(Known(count, claim.rise))
+            if number + 1 < len(self.claims):
+                looks.append((len(self.stretches) - 1, count, self._look(number)))
+        for stretch, knowns in enumerate(self.stretches):
+            self.frames += [Frame(stretch, each) for each in range(knowns[0].count // 100, knowns[-1].count // 100 + 1)]
+        self.place = {(frame.stretch, frame.number): place for place, frame in enumerate(self.frames)}
+        most = self._contradicts(looks)
+        for stretch, count, (zero, one, _) in looks:
+            frame = self.frames[self.place[stretch, count // 100]]
+            frame.costs[count % 100] = (min(most, max(0, zero - one)), min(most, max(0, one - zero)))
+
+    def _ahead(self, number: int) -> int:
+        """How many elements a step goes over."""
+        before, claim = self.claims[number - 1:number + 1]
+        ahead = (claim.element - before.element) % 100
+        if claim.kind == NEXT:
+            return self.prices.counts(before.rise, claim.rise)[ahead]
+        gone = self.prices.gone(before.rise, claim.rise)
+        return gone if gone % 100 == ahead else 1
+
+    def _look(self, number: int) -> Tuple[int, int, int]:
+        claim, after = self.claims[number:number + 2]
+        whole = after.kind == NEXT and self._ahead(number + 1) == 1
+        end = self.rises[after.rise] if whole else self.prices.end(claim.rise, after.rise)
+        return self.prices.look(claim.rise, end)
+
+    def _contradicts(self, looks: Sequence[Tuple[int, int, Tuple[int, int, int]]]) -> int:
+        """What an element costs that looks like the other class: how often those do whose class is known."""
+        unused = [look for _, count, look in looks if self.code.roles[count % 100] == UNUSED]
+        known = [one < zero for zero, one, _ in unused if abs(zero - one) > 16]
+        bad = sum(known)
+        found = logarithm((len(known) + 20) * 3 // (3 * bad + 1))
+        return min(CONTRADICTS, max(LEAST_CONTRADICTS, found))
+
+    # -- the line
+
+    def _line(self) -> None:
+        self.on_line = [[each for place, each in enumerate(knowns) if self._on_line(knowns, place)] for knowns in self.stretches]
+        self.moments = [[self.rises[each.rise] for each in line] for line in self.on_line]
+        self.bends: Dict[int, Optional[int]] = {}
+
+    def _tolerance(self, one: int, other: int, count: int) -> int:
+        interval = self.prices.interval(one, other)
+        square = self.prices.clock.spread_of(count)
+        wide = interval // 4
+        while wide > interval // OFF and wide * wide > square:  # twice the spread of that many elements
+            wide -= interval // OFF
+        return max(wide, interval // OFF)
+
+    def _agrees(self, one: Known, other: Known) -> bool:
+        """Whether two rises are as far apart as their elements."""
+        first, last = min(one, other), max(one, other)
+        count = last.count - first.count
+        return self.prices.deviation(first.rise, last.rise, count) <= self._tolerance(first.rise, last.rise, count)
+
+    def _on_line(self, knowns: Sequence[Known], place: int) -> bool:
+        """Whether a rise agrees with more than half of those before it, or of those after it."""
+        here = knowns[place]
+        before = [each for each in knowns[max(0, place - AROUND):place] if here.count - each.count <= AROUND]
+        after = [each for each in knowns[place + 1:place + AROUND + 1] if each.count - here.count <= AROUND]
+        return any(2 * sum(self._agrees(here, each) for each in side) > len(side) for side in (before, after))
+
+    # -- the frames
+
+    def _judge(self) -> None:
+        """The time of each frame, if it is sure."""
+        if not self.frames:
+            return
+        candidates = self._candidates()
+        sets: List[List[Optional[int]]] = [[*sorted(candidates[frame.stretch]), None] for frame in self.frames]
+        pays = [[OTHER + frame.own if base is None else frame.cost(self.code, base) for base in bases]
+                for frame, bases in zip(self.frames, sets)]
+        before: List[List[int]] = []
+        for place, bases in enumerate(sets):
+            before.append(self._forward(place, before[-1], sets[place - 1:place + 1], pays[place]) if place else list(pays[0]))
+        after = [[0] * len(bases) for bases in sets]
+        for place in reversed(range(len(sets) - 1)):
+            after[place] = [min(self._join(place + 1, base, other) + pay + rest
+                                for other, pay, rest in zip(sets[place + 1], pays[place + 1], after[place + 1])) for base in sets[place]]
+        for frame, bases, one, other in zip(self.frames, sets, before, after):
+            totals = sorted((first + last, number) for number, (first, last) in enumerate(zip(one, other)))
+            frame.best = bases[totals[0][1]]
+            if len(totals) > 1 and totals[1][0] - totals[0][0] >= SURE:
+                frame.base = frame.best
+
+    def _forward(self, place: int, before: Sequence[int], sets: Sequence[List[Optional[int]]], pays: Sequence[int]) -> List[int]:
+        """What the frames up to one cost at least for each of its times."""
+        ways = [min(known + self._join(place, other, base) for known, other in zip(before, sets[0])) for base in sets[1]]
+        return [known + pay for known, pay in zip(ways, pays)]
+
+    def _join(self, place: int, base: Optional[int], other: Optional[int]) -> int:
+        """What it costs that the frame before has one time, and this one another."""
+        if base is None or other is None:
+            return 0
+        frame, before = self.frames[place], self.frames[place - 1]
+        if frame.stretch == before.stretch:
+            far = self.code.far(base + before.number, other + frame.number)
+            return SET + logarithm(1 + far) if far else 0
+        last, first = self.stretches[before.stretch][-1], self.stretches[frame.stretch][0]
+        gone = last.count + self.prices.gone(last.rise, first.rise) - first.count  # elements that the frame numbers are apart
+        far = min(self.code.far(base + number, other) for number in (gone // 100 - 1, (gone + 99) // 100 - 1))
+        return logarithm(1 + far)
+
+    def _candidates(self) -> Dict[int, Set[int]]:
+        """For each stretch the times that frame 0 can have."""
+        found: Dict[int, Set[int]] = {}
+        for stretch in range(len(self.stretches)):
+            mine = [frame for frame in self.frames if frame.stretch == stretch]
+            got: Set[int] = set()
+            for window in WINDOWS:
+                for first in range(0, len(mine), max(1, window // 2)):
+                    self._look_for(mine[first:first + window], got)
+            found[stretch] = got
+        for stretch in range(1, len(self.stretches)):
+            last, first = self.stretches[stretch - 1][-1], self.stretches[stretch][0]
+            gone = last.count + self.prices.gone(last.rise, first.rise) - first.count
+            for by in {gone // 100, (gone + 99) // 100}:
+                one, other = sorted(found[stretch - 1])[:6], sorted(found[stretch])[:6]
+                found[stretch] |= {(base + by) % self.code.year for base in one}
+                found[stretch - 1] |= {(base - by) % self.code.year for base in other}
+        return found
+
+    def _look_for(self, frames: Sequence[Frame], got: Set[int]) -> None:
+        evidence = sum(sum(frame.costs[element]) for frame in frames for element in self.code.bits)
+        if evidence < ENOUGH or any(all(frame.cost(self.code, base) <= KNOWN for frame in frames) for base in got):
+            return
+        if len(frames) == 1 and any(frames[0].cost(self.code, base) <= KNOWN for base in got):
+            return
+        best = cheapest_times(self.code, frames)
+        got.update(base for _, base in best)
+        if len(frames) == 1:
+            frames[0].own = best[-1][0]
+
+    # -- the time of a moment
+
+    def when(self, moment: float) -> Optional[float]:
+        """The hundredths of a second since the begin of the year at a moment, or None if that is not sure."""
+        stretch = next((number for number, knowns in enumerate(self.stretches)
+                        if self.rises[knowns[0].rise] <= moment < self.rises[knowns[-1].rise]), None)
+        if stretch is None:
+            return None
+        line = self.on_line[stretch]
+        place = bisect_right(self.moments[stretch], moment)
+        if not 0 < place < len(line):
+            return None
+        one, other = line[place - 1:place + 1]
+        if min(self.margins[one.rise:other.rise]) < SURE or not self._straight(line, place):
+            return None
+        begin, end = self.rises[one.rise], self.rises[other.rise]
+        element = one.count + (moment - begin) / (end - begin) * (other.count - one.count)
+        base = self._base(stretch, int(element) // 100)
+        return None if base is None else (base * 100 + element) % (100 * self.code.year) * self.code.period / 100
+
+    def _base(self, stretch: int, number: int) -> Optional[int]:
+        """The time of frame 0 by that of a frame, if no frame next to it has another."""
+        place = self.place[stretch, number]
+        base = self.frames[place].base
+        if base is None:
+            return None
+        for each in (number - 1, number + 1):
+            near = self.place.get((stretch, each))
+            if near is not None and self.frames[near].base != base:
+                if self.frames[near].base is None or self.code.far(*sorted((base + number, self.frames[near].base + each))):
+                    return None
+        return base
+
+    def _straight(self, line: Sequence[Known], place: int) -> bool:
+        """Whether the time between two rises on the line is known: the clock on both sides has them as far apart, and it is steady."""
+        one, other = line[place - 1:place + 1]
+        count, far = other.count - one.count, PART * (self.rises[other.rise] - self.rises[one.rise])
+        interval = self.prices.interval(one.rise, other.rise)
+        if count == 1:
+            return self.prices.deviation(one.rise, other.rise, 1) <= self._tolerance(one.rise, other.rise, 1)
+        reach = max(32, count)
+        first = next(each for each in line if each.count >= one.count - reach)
+        last = line[bisect_right(line, (other.count + reach, len(self.rises))) - 1]
+        parts = [(a, b) for a, b in ((first, one), (other, last)) if a != b]
+        sides = [PART * (self.rises[b.rise] - self.rises[a.rise]) // (b.count - a.count) for a, b in parts]
+        if not sides:
+            return False
+        tolerance = max(interval // OFF, 2 * self.prices.clock.spread)
+        if abs(far - count * sum(sides) // len(sides)) > tolerance:
+            return False
+        bend = self._bend(count)
+        return bend is not None and bend <= tolerance
+
+    def _bend(self, count: int) -> Optional[int]:
+        """How far the middle one of about this many elements, or more, is off the line between their ends: one in twenty is further off.
+        Of spans that the recording hardly has it is that of longer ones."""
+        size = max(4, 1 << (count - 1).bit_length())
+        if size not in self.bends:
+            found = sorted(each for line in self.on_line for each in self._bends(line, size))
+            if len(found) >= SPANS:
+                self.bends[size] = found[19 * len(found) // 20]
+            else:
+                self.bends[size] = self._bend(2 * size) if size < LONGEST else None
+        return self.bends[size]
+
+    def _bends(self, line: Sequence[Known], size: int) -> List[int]:
+        counts, found, last = [known.count for known in line], [], 0
+        for first, count in enumerate(counts):
+            while last + 1 < len(counts) and counts[last + 1] <= count + size:
+                last += 1
+            if 4 * (counts[last] - count) >= 3 * size and last - first >= 2:
+                found.append(self._bend_of(line[first], line[(first + last) // 2], line[last]))
+        return found
+
+    def _bend_of(self, first: Known, between: Known, last: Known) -> int:
+        """How far a rise is off the line between two others."""
+        begin, rise, end = (PART * self.rises[each.rise] for each in (first, between, last))
+        return abs(rise - begin - (between.count - first.count) * (end - begin) // (last.count - first.count))
+
+
+# -- candidates
+
+
+def cheapest_times(code: Code, frames: Sequence[Frame]) -> List[Tuple[int, int]]:
+    """The two times of frame 0 that cost least over some frames, with what they cost: field by field, from the finest on."""
+    tables = [{name: digit_costs(frame, code, name) for name in code.fields if name != "sbs"} for frame in frames]
+    numbers = [frame.number for frame in frames]
+    fine = [[table["seconds"][part * code.period // 100] + (table["hundredths"][part * code.period % 100] if "hundredths" in table else 0)
+             for part in range(code.minute)] for table in tables]
+    size = code.minute
+    beam = [(sum(each[(part + number) % size] for each, number in zip(fine, numbers)), part) for part in range(size)]
+    beam = heapq.nsmallest(BEAM, beam)
+    for name, count in (("minutes", 60), ("hours", 24), ("days", 366)):
+        more: List[Tuple[int, int]] = []
+        for cost, time in beam:
+            carries = [(time + number) // size for number in numbers]
+            for value in range(count):
+                total = cost + sum(table[name][(value + carry) % count] for table, carry in zip(tables, carries))
+                more.append((total, value * size + time))
+        beam, size = heapq.nsmallest(BEAM, more), size * count
+    exact = sorted((sum(frame.cost(code, time) for frame in frames), time) for _, time in beam)
+    return exact[:2]
+
+
+def digit_costs(frame: Frame, code: Code, name: str) -> List[int]:
+    """What each value of a field costs in a frame; days count from 0."""
+    first = 1 if name == "days" else 0
+    total = [0] * {"days": 366, "hours": 24}.get(name, 100 if name == "hundredths" else 60)
+    for rows in code.fields[name]:
+        unit = rows[0][1]
+        digits = [sum(frame.costs[element][bool(value & weight // unit)] for element, weight in rows) for value in range(10)]
+        total = [known + digits[(value + first) // unit % 10] for value, known in enumerate(total)]
+    return total
