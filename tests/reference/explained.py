@@ -206,7 +206,7 @@ class Times:
     def _join(self, place: int, base: Optional[int], other: Optional[int]) -> int:
         """What it costs that the frame before has one time, and this one another."""
         if base is None or other is None:
-            return 0
+            return 0 if base == other else SET
         frame, before = self.frames[place], self.frames[place - 1]
         if frame.stretch == before.stretch:
             far = self.code.far(base + before.number, other + frame.number)
