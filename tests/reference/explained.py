@@ -8,7 +8,8 @@ from bisect import bisect_right
 from typing import Dict, FrozenSet, List, NamedTuple, Optional, Sequence, Set, Tuple
 
 from reference import timecode
-from reference.explanation import BIT, JUMPS, NEXT, PART, POSITION, SURE, UNUSED, Given, Prices, Pulse, Tables, logarithm, margins
+from reference.explanation import (
+    BIT, JUMPS, NEXT, PART, POSITION, SURE, UNUSED, WIDTH, Given, Prices, Pulse, Tables, ahead, logarithm, margins)
 
 SET = 176  # the time of the code jumps, and the logarithm of how many frames by: whole frames are lost, or a clock is set
 OTHER = 224  # a time of a frame that is no candidate
@@ -95,7 +96,7 @@ class Times:
         self.rises = self.prices.rises
         tables = Tables(self.prices)
         self.claims = tables.explain()
-        self.margins = margins(tables, Given(self.prices, self.claims))
+        self.margins = margins(tables, Given(self.prices, self.claims), SURE)
         self.cost = tables.cost
         self.stretches: List[List[Known]] = []
         self.frames: List[Frame] = []
@@ -112,30 +113,23 @@ class Times:
                 self.stretches.append([])
                 count = claim.element
             else:
-                count += self._ahead(number)
+                count += ahead(self.prices, *self.claims[number - 1:number + 1])
             self.stretches[-1].append(Known(count, claim.rise))
             if number + 1 < len(self.claims):
                 looks.append((len(self.stretches) - 1, count, self._look(number)))
         for stretch, knowns in enumerate(self.stretches):
             self.frames += [Frame(stretch, each) for each in range(knowns[0].count // 100, knowns[-1].count // 100 + 1)]
+        self.unlike = {(stretch, count) for stretch, count, look in looks
+                       if self.prices.as_roles(look)[self.code.roles[count % 100]] >= WIDTH}  # elements whose wire does not look like them
         self.place = {(frame.stretch, frame.number): place for place, frame in enumerate(self.frames)}
         most = self._contradicts(looks)
         for stretch, count, (zero, one, _) in looks:
             frame = self.frames[self.place[stretch, count // 100]]
             frame.costs[count % 100] = (min(most, max(0, zero - one)), min(most, max(0, one - zero)))
 
-    def _ahead(self, number: int) -> int:
-        """How many elements a step goes over."""
-        before, claim = self.claims[number - 1:number + 1]
-        ahead = (claim.element - before.element) % 100
-        if claim.kind == NEXT:
-            return self.prices.counts(before.rise, claim.rise)[ahead]
-        gone = self.prices.gone(before.rise, claim.rise)
-        return gone if gone % 100 == ahead else 1
-
     def _look(self, number: int) -> Tuple[int, int, int]:
         claim, after = self.claims[number:number + 2]
-        whole = after.kind == NEXT and self._ahead(number + 1) == 1
+        whole = after.kind == NEXT and ahead(self.prices, claim, after) == 1
         end = self.rises[after.rise] if whole else self.prices.end(claim.rise, after.rise)
         return self.prices.look(claim.rise, end)
 
@@ -150,7 +144,8 @@ class Times:
     # -- the line
 
     def _line(self) -> None:
-        self.on_line = [[each for place, each in enumerate(knowns) if self._on_line(knowns, place)] for knowns in self.stretches]
+        alike = [[each for each in knowns if (stretch, each.count) not in self.unlike] for stretch, knowns in enumerate(self.stretches)]
+        self.on_line = [[each for place, each in enumerate(knowns) if self._on_line(knowns, place)] for knowns in alike]
         self.moments = [[self.rises[each.rise] for each in line] for line in self.on_line]
         self.bends: Dict[int, Optional[int]] = {}
 

@@ -22,7 +22,7 @@ WIDTH, WIDTH_MORE, WIDTH_MOST = 48, 128, 96  # another width: at once, for each 
 ZERO, ONE = 1, 11  # bits are mostly zero
 STEP = 192  # the time steps, the element number goes on
 JUMP = 256  # the element number jumps
-SURE = 96  # what all explanations say that cost less than this more is sure
+SURE = 176  # what all explanations say that cost less than this more is sure: more than a jump that one element contradicts
 CANNOT = 1 << 24
 WINDOW = 64  # rises
 HALF = 15  # distances before a rise, and after it, of which the clock is the middle
@@ -382,6 +382,15 @@ class Tables:
         return None
 
 
+def ahead(prices: Prices, one: Claim, other: Claim) -> int:
+    """How many elements a step goes over that is no jump."""
+    turned = (other.element - one.element) % prices.elements
+    if other.kind == NEXT:
+        return prices.counts(one.rise, other.rise)[turned]
+    gone = prices.gone(one.rise, other.rise)
+    return gone if gone % prices.elements == turned else 1
+
+
 class Given:
     """What an explanation gives each rise, in 256ths of an element, and whether it goes on over each interval between rises."""
 
@@ -392,11 +401,11 @@ class Given:
         for one, other in zip(claims, claims[1:]):
             self.elements[one.rise] = PART * one.element
             self.elements[other.rise] = PART * other.element
-            if other.kind == NEXT:
+            if other.kind != JUMPS:
                 self._over(prices, one, other)
 
     def _over(self, prices: Prices, one: Claim, other: Claim) -> None:
-        count = prices.counts(one.rise, other.rise)[(other.element - one.element) % prices.elements]
+        count = ahead(prices, one, other)
         begin, end = prices.rises[one.rise], prices.rises[other.rise]
         for rise in range(one.rise, other.rise):
             self.goes_on[rise] = True
@@ -446,15 +455,16 @@ def elsewhere(tables: Tables, given: Given, rise: int, later: int, enough: int) 
     """What the cheapest explanation costs with a step between two rises that does not agree with what is given, if less than enough."""
     spent, rest, roles, size = tables.before[rise], tables.after[later], tables.prices.roles, tables.prices.elements
     cheapest, over = rest[tables.cheap_after[later][0]], given.over(rise, later)
-    for kind, count, price in tables.ways(rise, later):
+    for _, count, price in tables.ways(rise, later):
         low = min(price) + cheapest
         for element in tables.cheap_before[rise]:
             if spent[element] + low >= enough:
                 break
-            other = (element + count) % size
-            if kind == NEXT and over and given.near(rise, element) and given.near(later, other):
-                continue
-            enough = min(enough, spent[element] + price[roles[element]] + (rest[other] if count else cheapest))
+            same = over and given.near(rise, element)
+            others = [(element + count) % size] if count else tables.cheap_after[later]
+            other = next((each for each in others if not (same and given.near(later, each))), None)
+            if other is not None:
+                enough = min(enough, spent[element] + price[roles[element]] + rest[other])
     return enough
 
 
