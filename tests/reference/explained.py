@@ -5,7 +5,7 @@ from __future__ import annotations
 
 import heapq
 from bisect import bisect_right
-from typing import Dict, FrozenSet, List, NamedTuple, Optional, Sequence, Set, Tuple
+from typing import Dict, FrozenSet, Iterator, List, NamedTuple, Optional, Sequence, Set, Tuple
 
 from reference import timecode
 from reference.explanation import (
@@ -19,6 +19,7 @@ ENOUGH = 640  # evidence of that much is looked at for a time
 WINDOWS = (32, 8, 1)  # frames
 BEAM = 12  # times kept from each field to the next finer one
 AROUND = 8  # elements on each side by which a rise is on the line
+JUMP_FRAMES = 3  # on each side of a jump of the time in which it can be
 SPANS = 8  # of a length that say how steady the clock is
 LONGEST = 1 << 10  # elements of a span
 OFF = 20  # a time is off by at most so small a part of an interval
@@ -87,6 +88,17 @@ class Known(NamedTuple):
     rise: int
 
 
+class Jumped(NamedTuple):
+    """Within a stretch the time jumps at an element from the first to the last one; the frame before `frame` is sure of the time before."""
+
+    stretch: int
+    frame: int
+    first: int
+    last: int
+    before: int
+    after: int
+
+
 class Times:
     """The times that the cheapest explanation of a recording gives, of those that are sure."""
 
@@ -103,6 +115,7 @@ class Times:
         self._count()
         self._line()
         self._judge()
+        self.jumps = list(self._jumps())
 
     # -- the elements
 
@@ -258,21 +271,52 @@ class Times:
             return None
         begin, end = self.rises[one.rise], self.rises[other.rise]
         element = one.count + (moment - begin) / (end - begin) * (other.count - one.count)
-        base = self._base(stretch, int(element) // 100)
+        base = self._base(stretch, int(element))
         return None if base is None else (base * 100 + element) % (100 * self.code.year) * self.code.period / 100
 
-    def _base(self, stretch: int, number: int) -> Optional[int]:
-        """The time of frame 0 by that of a frame, if no frame next to it has another."""
-        place = self.place[stretch, number]
-        base = self.frames[place].base
-        if base is None:
+    def _base(self, stretch: int, element: int) -> Optional[int]:
+        """The time of frame 0 by that of an element's frame, if it cannot have jumped there and no frame next to it is unsure."""
+        number = element // 100
+        frames = [self.frames[self.place[stretch, each]] for each in (number - 1, number, number + 1) if (stretch, each) in self.place]
+        if any(frame.base is None for frame in frames):
             return None
-        for each in (number - 1, number + 1):
-            near = self.place.get((stretch, each))
-            if near is not None and self.frames[near].base != base:
-                if self.frames[near].base is None or self.code.far(*sorted((base + number, self.frames[near].base + each))):
-                    return None
+        base = self.frames[self.place[stretch, number]].base
+        for jump in self.jumps:
+            if jump.stretch != stretch:
+                continue
+            if jump.first - 1 <= element <= jump.last:
+                return None
+            if number < jump.frame and element > jump.last:
+                base = jump.after
+            if number >= jump.frame and element < jump.first - 1:
+                base = jump.before
         return base
+
+    def _jumps(self) -> Iterator[Jumped]:
+        """Where the time jumps between two sure frames."""
+        for before, frame in zip(self.frames, self.frames[1:]):
+            if before.stretch != frame.stretch or before.base is None or frame.base is None:
+                continue
+            if self.code.far(before.base + before.number, frame.base + frame.number):
+                first, last = self._where(frame, before.base, frame.base)
+                yield Jumped(frame.stretch, frame.number, first, last, before.base, frame.base)
+
+    def _where(self, frame: Frame, before: int, after: int) -> Tuple[int, int]:
+        """From which element to which one the time can jump: at each that costs less than SURE more than the cheapest."""
+        near = range(100 * (frame.number - JUMP_FRAMES), 100 * (frame.number + JUMP_FRAMES))
+        costs = [sum(self._element_cost(frame.stretch, element, after) for element in near)]
+        for element in near:
+            more = self._element_cost(frame.stretch, element, before) - self._element_cost(frame.stretch, element, after)
+            costs.append(costs[-1] + more)
+        can = [near[0] + number for number, each in enumerate(costs) if each < min(costs) + SURE]
+        return can[0], can[-1]
+
+    def _element_cost(self, stretch: int, element: int, base: int) -> int:
+        """What an element costs with a time."""
+        place = self.place.get((stretch, element // 100))
+        if place is None or element % 100 not in self.code.bits:
+            return 0
+        return self.frames[place].costs[element % 100][element % 100 in self.code.ones(base + element // 100)]
 
     def _straight(self, line: Sequence[Known], place: int) -> bool:
         """Whether the time between two rises on the line is known: the clock on both sides has them as far apart, and it is steady."""
