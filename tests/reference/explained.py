@@ -73,7 +73,8 @@ class Frame:
         self.number = number
         self.costs: List[Tuple[int, int]] = [(0, 0)] * 100
         self.base: Optional[int] = None  # the time of frame 0 of the stretch, if this one's time is sure
-        self.best: Optional[int] = None
+        self.near: Set[Optional[int]] = set()  # the times that are not excluded
+        self.between = False  # it has one of two times between which it is known where the time can jump
         self.own = 0
 
     def cost(self, code: Code, base: int) -> int:
@@ -84,15 +85,16 @@ class Frame:
 class Known(NamedTuple):
     """A claim of a stretch: its element counted on, and its rise."""
 
-    count: int
+    element: int
     rise: int
 
 
 class Jumped(NamedTuple):
-    """Within a stretch the time jumps at an element from the first to the last one; the frame before `frame` is sure of the time before."""
+    """Within a stretch the time jumps between two sure frames, at an element from the first to the last one."""
 
     stretch: int
-    frame: int
+    start: int
+    to: int
     first: int
     last: int
     before: int
@@ -131,7 +133,7 @@ class Times:
             if number + 1 < len(self.claims):
                 looks.append((len(self.stretches) - 1, count, self._look(number)))
         for stretch, knowns in enumerate(self.stretches):
-            self.frames += [Frame(stretch, each) for each in range(knowns[0].count // 100, knowns[-1].count // 100 + 1)]
+            self.frames += [Frame(stretch, each) for each in range(knowns[0].element // 100, knowns[-1].element // 100 + 1)]
         self.unlike = {(stretch, count) for stretch, count, look in looks
                        if self.prices.as_roles(look)[self.code.roles[count % 100]] >= WIDTH}  # elements whose wire does not look like them
         self.place = {(frame.stretch, frame.number): place for place, frame in enumerate(self.frames)}
@@ -157,7 +159,7 @@ class Times:
     # -- the line
 
     def _line(self) -> None:
-        alike = [[each for each in knowns if (stretch, each.count) not in self.unlike] for stretch, knowns in enumerate(self.stretches)]
+        alike = [[each for each in knowns if (stretch, each.element) not in self.unlike] for stretch, knowns in enumerate(self.stretches)]
         self.on_line = [[each for place, each in enumerate(knowns) if self._on_line(knowns, place)] for knowns in alike]
         self.moments = [[self.rises[each.rise] for each in line] for line in self.on_line]
         self.bends: Dict[int, Optional[int]] = {}
@@ -173,14 +175,14 @@ class Times:
     def _agrees(self, one: Known, other: Known) -> bool:
         """Whether two rises are as far apart as their elements."""
         first, last = min(one, other), max(one, other)
-        count = last.count - first.count
+        count = last.element - first.element
         return self.prices.deviation(first.rise, last.rise, count) <= self._tolerance(first.rise, last.rise, count)
 
     def _on_line(self, knowns: Sequence[Known], place: int) -> bool:
         """Whether a rise agrees with more than half of those before it, or of those after it."""
         here = knowns[place]
-        before = [each for each in knowns[max(0, place - AROUND):place] if here.count - each.count <= AROUND]
-        after = [each for each in knowns[place + 1:place + AROUND + 1] if each.count - here.count <= AROUND]
+        before = [each for each in knowns[max(0, place - AROUND):place] if here.element - each.element <= AROUND]
+        after = [each for each in knowns[place + 1:place + AROUND + 1] if each.element - here.element <= AROUND]
         return any(2 * sum(self._agrees(here, each) for each in side) > len(side) for side in (before, after))
 
     # -- the frames
@@ -202,9 +204,9 @@ class Times:
                                 for other, pay, rest in zip(sets[place + 1], pays[place + 1], after[place + 1])) for base in sets[place]]
         for frame, bases, one, other in zip(self.frames, sets, before, after):
             totals = sorted((first + last, number) for number, (first, last) in enumerate(zip(one, other)))
-            frame.best = bases[totals[0][1]]
-            if len(totals) > 1 and totals[1][0] - totals[0][0] >= SURE:
-                frame.base = frame.best
+            frame.near = {bases[number] for total, number in totals if total - totals[0][0] < SURE}
+            if len(totals) > 1 and len(frame.near) == 1:
+                frame.base = bases[totals[0][1]]
 
     def _forward(self, place: int, before: Sequence[int], sets: Sequence[List[Optional[int]]], pays: Sequence[int]) -> List[int]:
         """What the frames up to one cost at least for each of its times."""
@@ -220,7 +222,7 @@ class Times:
             far = self.code.far(base + before.number, other + frame.number)
             return SET + logarithm(1 + far) if far else 0
         last, first = self.stretches[before.stretch][-1], self.stretches[frame.stretch][0]
-        gone = last.count + self.prices.gone(last.rise, first.rise) - first.count  # elements that the frame numbers are apart
+        gone = last.element + self.prices.gone(last.rise, first.rise) - first.element  # elements that the frame numbers are apart
         far = min(self.code.far(base + number, other) for number in (gone // 100 - 1, (gone + 99) // 100 - 1))
         return logarithm(1 + far)
 
@@ -236,7 +238,7 @@ class Times:
             found[stretch] = got
         for stretch in range(1, len(self.stretches)):
             last, first = self.stretches[stretch - 1][-1], self.stretches[stretch][0]
-            gone = last.count + self.prices.gone(last.rise, first.rise) - first.count
+            gone = last.element + self.prices.gone(last.rise, first.rise) - first.element
             for by in {gone // 100, (gone + 99) // 100}:
                 one, other = sorted(found[stretch - 1])[:6], sorted(found[stretch])[:6]
                 found[stretch] |= {(base + by) % self.code.year for base in one}
@@ -270,7 +272,7 @@ class Times:
         if min(self.margins[one.rise:other.rise]) < SURE or not self._straight(line, place):
             return None
         begin, end = self.rises[one.rise], self.rises[other.rise]
-        element = one.count + (moment - begin) / (end - begin) * (other.count - one.count)
+        element = one.element + (moment - begin) / (end - begin) * (other.element - one.element)
         base = self._base(stretch, int(element))
         return None if base is None else (base * 100 + element) % (100 * self.code.year) * self.code.period / 100
 
@@ -278,38 +280,52 @@ class Times:
         """The time of frame 0 by that of an element's frame, if it cannot have jumped there and no frame next to it is unsure."""
         number = element // 100
         frames = [self.frames[self.place[stretch, each]] for each in (number - 1, number, number + 1) if (stretch, each) in self.place]
-        if any(frame.base is None for frame in frames):
+        if any(frame.base is None and not frame.between for frame in frames):
             return None
         base = self.frames[self.place[stretch, number]].base
         for jump in self.jumps:
-            if jump.stretch != stretch:
-                continue
-            if jump.first - 1 <= element <= jump.last:
+            if jump.stretch == stretch and jump.first - 1 <= element <= jump.last:
                 return None
-            if number < jump.frame and element > jump.last:
+            if jump.stretch == stretch and jump.last < element < 100 * jump.to:
                 base = jump.after
-            if number >= jump.frame and element < jump.first - 1:
+            if jump.stretch == stretch and 100 * jump.start + 99 < element < jump.first:
                 base = jump.before
         return base
 
     def _jumps(self) -> Iterator[Jumped]:
-        """Where the time jumps between two sure frames."""
-        for before, frame in zip(self.frames, self.frames[1:]):
-            if before.stretch != frame.stretch or before.base is None or frame.base is None:
+        """Where the time jumps between two sure frames, if those between them have one of both times."""
+        sure = [frame for frame in self.frames if frame.base is not None]
+        for one, other in zip(sure, sure[1:]):
+            if one.stretch != other.stretch or one.base is None or other.base is None or one.base == other.base:
                 continue
-            if self.code.far(before.base + before.number, frame.base + frame.number):
-                first, last = self._where(frame, before.base, frame.base)
-                yield Jumped(frame.stretch, frame.number, first, last, before.base, frame.base)
+            between = self.frames[self.place[one.stretch, one.number] + 1:self.place[other.stretch, other.number]]
+            goes_on = not self.code.far(one.base + other.number - 1, other.base + other.number)
+            if goes_on or any(not frame.near <= {one.base, other.base} for frame in between):
+                continue
+            first, last = self._where(one, other)
+            yield Jumped(one.stretch, one.number, other.number, first, last, one.base, other.base)
+            for frame in between:
+                frame.between = True
 
-    def _where(self, frame: Frame, before: int, after: int) -> Tuple[int, int]:
+    def _where(self, one: Frame, other: Frame) -> Tuple[int, int]:
         """From which element to which one the time can jump: at each that costs less than SURE more than the cheapest."""
-        near = range(100 * (frame.number - JUMP_FRAMES), 100 * (frame.number + JUMP_FRAMES))
-        costs = [sum(self._element_cost(frame.stretch, element, after) for element in near)]
+        assert one.base is not None and other.base is not None
+        near = range(100 * self._reach(one, -1), 100 * self._reach(other, 1) + 100)
+        costs = [sum(self._element_cost(one.stretch, element, other.base) for element in near)]
         for element in near:
-            more = self._element_cost(frame.stretch, element, before) - self._element_cost(frame.stretch, element, after)
+            more = self._element_cost(one.stretch, element, one.base) - self._element_cost(one.stretch, element, other.base)
             costs.append(costs[-1] + more)
         can = [near[0] + number for number, each in enumerate(costs) if each < min(costs) + SURE]
         return can[0], can[-1]
+
+    def _reach(self, frame: Frame, by: int) -> int:
+        """The number of the last one of some frames next to each other that have the same time."""
+        number = frame.number
+        for each in range(frame.number + by, frame.number + by * JUMP_FRAMES, by):
+            if (frame.stretch, each) not in self.place or self.frames[self.place[frame.stretch, each]].base != frame.base:
+                break
+            number = each
+        return number
 
     def _element_cost(self, stretch: int, element: int, base: int) -> int:
         """What an element costs with a time."""
@@ -321,15 +337,15 @@ class Times:
     def _straight(self, line: Sequence[Known], place: int) -> bool:
         """Whether the time between two rises on the line is known: the clock on both sides has them as far apart, and it is steady."""
         one, other = line[place - 1:place + 1]
-        count, far = other.count - one.count, PART * (self.rises[other.rise] - self.rises[one.rise])
+        count, far = other.element - one.element, PART * (self.rises[other.rise] - self.rises[one.rise])
         interval = self.prices.interval(one.rise, other.rise)
         if count == 1:
             return self.prices.deviation(one.rise, other.rise, 1) <= self._tolerance(one.rise, other.rise, 1)
         reach = max(32, count)
-        first = next(each for each in line if each.count >= one.count - reach)
-        last = line[bisect_right(line, (other.count + reach, len(self.rises))) - 1]
+        first = next(each for each in line if each.element >= one.element - reach)
+        last = line[bisect_right(line, (other.element + reach, len(self.rises))) - 1]
         parts = [(a, b) for a, b in ((first, one), (other, last)) if a != b]
-        sides = [PART * (self.rises[b.rise] - self.rises[a.rise]) // (b.count - a.count) for a, b in parts]
+        sides = [PART * (self.rises[b.rise] - self.rises[a.rise]) // (b.element - a.element) for a, b in parts]
         if not sides:
             return False
         tolerance = max(interval // OFF, 2 * self.prices.clock.spread)
@@ -351,7 +367,7 @@ class Times:
         return self.bends[size]
 
     def _bends(self, line: Sequence[Known], size: int) -> List[int]:
-        counts, found, last = [known.count for known in line], [], 0
+        counts, found, last = [known.element for known in line], [], 0
         for first, count in enumerate(counts):
             while last + 1 < len(counts) and counts[last + 1] <= count + size:
                 last += 1
@@ -362,7 +378,7 @@ class Times:
     def _bend_of(self, first: Known, between: Known, last: Known) -> int:
         """How far a rise is off the line between two others."""
         begin, rise, end = (PART * self.rises[each.rise] for each in (first, between, last))
-        return abs(rise - begin - (between.count - first.count) * (end - begin) // (last.count - first.count))
+        return abs(rise - begin - (between.element - first.element) * (end - begin) // (last.element - first.element))
 
 
 # -- candidates
