@@ -20,6 +20,7 @@ WINDOWS = (32, 8, 1)  # frames
 BEAM = 12  # times kept from each field to the next finer one
 AROUND = 8  # elements on each side by which a rise is on the line
 JUMP_FRAMES = 3  # on each side of a jump of the time in which it can be
+NEAR = 99  # frames
 SPANS = 8  # of a length that say how steady the clock is
 LONGEST = 1 << 10  # elements of a span
 OFF = 20  # a time is off by at most so small a part of an interval
@@ -245,7 +246,17 @@ class Times:
                 found[stretch - 1] |= {(base - by) % self.code.year for base in other}
         return found
 
+    def _near_times(self, frame: Frame, got: Set[int]) -> None:
+        """Adds the times less than a hundred frames from a known one that are not excluded by what the jump costs."""
+        for base in heapq.nsmallest(2, got, key=lambda each: (frame.cost(self.code, each), each)):
+            most = frame.cost(self.code, base) + SURE - SET
+            steps = [by for by in range(-NEAR, NEAR + 1) if by and most > 0]
+            costs = [(frame.cost(self.code, base + by) + logarithm(1 + abs(by)), by) for by in steps]
+            got.update((base + by) % self.code.year for cost, by in heapq.nsmallest(2, costs) if cost < most)
+
     def _look_for(self, frames: Sequence[Frame], got: Set[int]) -> None:
+        if len(frames) == 1:
+            self._near_times(frames[0], got)
         evidence = sum(sum(frame.costs[element]) for frame in frames for element in self.code.bits)
         if evidence < ENOUGH or any(all(frame.cost(self.code, base) <= KNOWN for frame in frames) for base in got):
             return
