@@ -7,13 +7,13 @@ import tempfile
 
 from built import DIFF, TIME
 from cases import case
-from irig_tools import align_program, damage_program, demodulate_program, escapes, mend_program, what_program, wire_program
+from irig_tools import align_program, damage_program, demodulate_program, escapes, join_program, mend_program, what_program, wire_program
 from random_input import damages
 from rows.tools_apply import END, recorded, same
 from rows.tools_outputs import DAMAGED
 from rows.tools_what import dump
 
-PROGRAMS = what_program, wire_program, damage_program, mend_program, demodulate_program, align_program
+PROGRAMS = what_program, wire_program, damage_program, mend_program, demodulate_program, align_program, join_program
 FILES = "FILE", "ORIGINAL", "OTHER", "FOLDER"  # how the value of an option is called that is a file
 PLAIN = "plain.vcd"
 NAMES = (
@@ -24,6 +24,7 @@ NAMES = (
 # of IEEE 1364: any letters but white space
 WIRES = "$(touch${IFS}pwned)", "';touch${IFS}pwned;#", "--out=pwned", "-", "\x1b[31m\u202e", "=1+1", "a\\nb", "%s!*"
 RAW = re.compile("[\x00-\x08\x0b-\x1f\x7f-\x9f\u061c\u200e\u200f\u2028-\u202e\u2066-\u2069\udc80-\udc9f]")
+TIMED = "time,t\n061T12:34:56.000000,1\n"
 TABLE = "time,%s,value\n" + "".join("%d,%d,%d\n" % (number, number % 3, number % 2) for number in range(9))
 
 
@@ -49,6 +50,8 @@ def commands(name):
     yield "irig_demodulate", ["--table", "--samples=" + new, "--column=value", "--out=%s.2" % new, "--", "table" + name]
     yield "irig_demodulate", ["--table", "--column=" + name, "--", "table" + name]
     yield "irig_align", ["--", name]
+    yield "irig_join", ["--comma=,", "--header=1", "--out=%s.3" % new, "--", "timed" + name, "timed" + name]
+    yield "irig_join", ["--", "timed" + name, "timed" + name]
 
 
 def filled(name):
@@ -59,7 +62,7 @@ def filled(name):
     files = {name: track, PLAIN: track, "in%s/%s" % (name, name): track, "in%s/junk%s" % (name, name): "$none",
              "in%s/none%s.txt" % (name, name): "none",
              "two" + name: track.replace("$enddefinitions", "$var wire 1 ? d $end $enddefinitions"),
-             "other" + name: damages.dump(recorded(), END), "table" + name: TABLE % re.sub("[,;\"\r\n]", "", name)}
+             "other" + name: damages.dump(recorded(), END), "timed" + name: TIMED, "table" + name: TABLE % re.sub("[,;\"\r\n]", "", name)}
     for path, text in files.items():
         with open(path, "w", encoding="utf-8", errors="surrogateescape") as file:
             file.write(text)

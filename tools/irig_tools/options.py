@@ -11,6 +11,7 @@ from .ending import Usage
 
 FILE_VALUES = "FILE", "ORIGINAL", "OTHER"  # how the value of an option is called that is a file
 NO_VALUE = "expected"  # how a complaint of argparse begins if a value is not there
+MORE = "..."  # how an operand ends that can be given several times
 
 
 @dataclass(frozen=True)
@@ -107,8 +108,8 @@ class Given:
 
 @dataclass(frozen=True)
 class Command:
-    """A program's name, its operands (one in brackets can be left out), what it does, its options, and how it
-    ends."""
+    """A program's name, its operands (one in brackets can be left out, and the last one can have others after it), what it does, its
+    options, and how it ends."""
 
     name: str
     operands: Tuple[str, ...]
@@ -162,7 +163,7 @@ class Command:
         for place, operand in enumerate(needed):
             if not any(names[place:place + 1]):
                 raise Usage("no %s is given" % operand)
-        if len(names) > len(self.operands):
+        if len(names) > len(self.operands) and not self.operands[-1].endswith(MORE):
             raise Usage("'%s' is one too many; the operands are %s" % (
                 names[len(self.operands)], " ".join(self.operands)))
 
