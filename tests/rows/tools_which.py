@@ -4,16 +4,17 @@ import os
 import random
 import shlex
 import subprocess
+import zipfile
 from array import array
 from unittest import mock
 
 from built import TIME, TOP
 from cases import case
-from irig_tools import every_column, table
+from irig_tools import every_column, sigrok, table
 from rows.in_process import run
 from rows.tools_apply import in_folder, same, text_of
 from rows.tools_carrier import fine, signal, wav
-from rows.tools_tables import LENGTH, TABLES, changes, levels
+from rows.tools_tables import LENGTH, RATE, TABLES, changes, levels, packed
 from rows.tools_what import track
 
 OWN = ("--column", "--level", "--swap")  # what is found
@@ -103,6 +104,36 @@ def chain_of_commands():
     return in_folder(lambda: list(holds()))
 
 
+def chain_of_sigrok():
+    """All commands for a file of sigrok: each change of the other channel, a clock that changes with each sample, has its time of day. The
+    file is read once, and what has no other channel is mended as any dump."""
+    def holds():
+        with open("rec.sr", "wb") as file:
+            file.write(packed())
+        with zipfile.ZipFile("alone.sr", "w") as folder:
+            folder.writestr("metadata", "[device 1]\ncapturefile=logic-1\nsamplerate=20 kHz\nprobe1=code\nunitsize=1\n")
+            folder.writestr("logic-1", bytes(levels()))
+        with mock.patch.object(sigrok, "_samples", side_effect=sigrok._samples) as read:
+            status, printed, _ = run("irig_what", ["rec.sr"])
+        yield same("the channel", (status, printed.decode().partition("\n")[0], read.call_count),
+                   (0, 'wire code (code ", path sigrok.code), upright, format B', 1))
+        command = printed.decode().splitlines()[-1]
+        path = os.pathsep.join([os.path.join(TOP, "tools"), os.path.dirname(TIME), os.environ["PATH"]])
+        done = subprocess.run(command, shell=True, env={**os.environ, "PATH": path}, capture_output=True, text=True, check=False)
+        yield same("its status", done.returncode, 0)
+        apart = 1000000 // RATE
+        # a position identifier is before the first frame
+        wanted = ["061T12:34:%09.6f\t%d\tD0\t%d" % (20 + (time - 40000) / 1e6, time, time // apart % 2)
+                  for time in range(40000, 2000000, apart)]
+        lines = text_of("timed.txt").splitlines()
+        found = lines[next(at for at, line in enumerate(lines) if "\t40000\t" in line):][:len(wanted)]
+        yield same("the times of day", [pair for pair in zip(found, wanted) if pair[0] != pair[1]], [])
+        last = run("irig_what", ["alone.sr"])[1].decode().splitlines()[-1]
+        yield same("a channel alone", ("--changes" in last, last.startswith("irig_wire alone.sr > one-2.vcd && irig_ed ")), (False, True))
+
+    return in_folder(lambda: list(holds()))
+
+
 def of_other_files():
     """Code that begins late, no code, code in two columns, a column that is called auto, and no table."""
     quiet = "Time [s],A,B\n" + "".join("%.4f,0,%d\n" % (number / 1000, number % 2) for number in range(9000))
@@ -144,5 +175,6 @@ def read_once():
 def cases(top):
     """Each kind by its name."""
     return [case("which: " + name, holds) for name, holds in (
-        ("tables", of_tables), ("sound files", of_sounds), ("the chain of commands", chain_of_commands), ("other files", of_other_files),
+        ("tables", of_tables), ("sound files", of_sounds), ("the chain of commands", chain_of_commands),
+        ("the chain of a file of sigrok", chain_of_sigrok), ("other files", of_other_files),
         ("each row once", read_once))]

@@ -12,6 +12,7 @@ from cases import case
 from irig_tools import wire
 from reference import dump
 from rows.in_process import run
+from rows.tools_apply import in_folder, same, text_of
 
 HEAD = "$timescale 1 us $end $var wire 1 ! a $end $enddefinitions $end "
 TWO = """$timescale 1 ns $end $scope module tb $end $var reg 8 # bus [7:0] $end $var wire 1 " clock $end
@@ -331,11 +332,45 @@ def listed():
         yield done == (2, b"", wanted)
 
 
+BESIDE = "$timescale 10 ns $end $var wire 1 ! code $end $var wire 1 \" d $end $var wire 1 % e $end $var reg 8 # bus [7:0] $end " \
+    "$enddefinitions $end #0 $dumpvars 0! x\" 1% b0 # $end #100 1! 1\" #150 1\" b1 # #200 0! 0\" #333 z\" 0% #400 0!\n"
+ALL_CHANGES = "0\td\tx\n0\te\t1\n1\td\t1\n2\td\t0\n3.33\td\tz\n3.33\te\t0\n"
+# options, and the changes of the other wires
+CHANGES = (
+    ([], ALL_CHANGES), (["--from=150"], "0.5\td\t0\n1.83\td\tz\n1.83\te\t0\n"), (["--to=300"], "".join(ALL_CHANGES.splitlines(True)[:4])),
+    (["--from=100", "--to=200"], "0\td\t1\n1\td\t0\n"), (["--timescale=10us"], ALL_CHANGES.replace("1\td", "1000\td").replace(
+        "2\td", "2000\td").replace("3.33", "3330")))
+# a command line, and what is said
+NO_CHANGES = (
+    ("--changes new one.vcd", "one.vcd: has no other wire of one bit; --changes writes what they do"),
+    ("--changes new --into rec.vcd one.vcd", "--changes is for a dump that is read"),
+    ("--changes new --windows rec.vcd code", "--windows and --changes exclude each other"),
+    ("--changes rec.vcd rec.vcd code", "--changes rec.vcd would write over the file that is read"),
+    ("--changes - rec.vcd code", "are one file"), ("--changes x --out ./x rec.vcd code", "are one file"))
+
+
+def changes_beside():
+    """A line for each change of another wire of one bit; the dump is the same as without them."""
+    def holds():
+        for words, wanted in CHANGES:
+            status, text, said = run("irig_wire", ["--changes", "data.txt", *words, "rec.vcd", "code"])
+            yield same("changes %s" % words, (status, text_of("data.txt")), (0, wanted))
+            yield same("the dump %s" % words, (status, text), run("irig_wire", [*words, "rec.vcd", "code"])[:2])
+            yield same("how many %s" % words, "data.txt has %d lines: microseconds, wire and level" % wanted.count("\n") in said, True)
+        os.unlink("data.txt")
+        for line, text in NO_CHANGES:
+            status, _, said = run("irig_wire", line.split())
+            yield same(line, (status, text in said), (2, True))
+        yield same("what is there then", (sorted(os.listdir(".")), text_of("rec.vcd")), (["one.vcd", "rec.vcd"], BESIDE))
+
+    return in_folder(lambda: list(holds()), rec=BESIDE, one=HEAD + UP)
+
+
 def cases(top):
     """Each row by its name."""
     return [
         *(case("wire: " + row[0], row_holds, *row) for row in ROWS), case("wire: dumps of other tools", real, top),
-        case("wire: what is written", written),
+        case("wire: what is written", written), case("wire: changes of the others", changes_beside),
         case("wire: limits", limits), case("wire: packed files", packed), case("wire: files of several packed streams", packed_by_parts),
         case("wire: a long file", long_file, top), case("wire: hostile", hostile),
         case("wire: random dumps", random_rows), case("wire: ends", ends, top), case("wire: a list of wires", listed)]

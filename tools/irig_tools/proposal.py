@@ -41,9 +41,23 @@ class Proposal:
     remarks: int = 0
     choice: Sequence[str] = ()  # the options of irig_mend for the unit and the dump
     is_part: bool = False  # only a part of the dump was looked at
+    has_beside: bool = False  # of a file of sigrok: other channels, which get their times of day
 
     def lines(self) -> List[str]:
         """The command is the last line; before it is what it is for, if the recording is damaged."""
+        if self.has_beside:
+            return [*self._told()[:-1], self._chain()]
+        return self._told()
+
+    def _chain(self) -> str:
+        """All commands up to the time of day of the other channels."""
+        new, data, timed = (in_command(free_name(name)) for name in ("new.vcd", "data.txt", "timed.txt"))
+        first = "irig_wire --changes %s %s > %s" % (data, " ".join(map(in_command, self.extraction or ())), self._track())
+        mend = "irig_mend %s --apply %s %s" % (self._options(), new, self._track())
+        return "%s && %s && irig_time %s %s < %s > %s" % (first, mend, self._options(), new, data, timed)
+
+    def _told(self) -> List[str]:
+        """The command that repairs the recording or opens it, and before it what it is for, if there is something to say."""
         new = in_command(free_name("new.vcd"))
         mend = "irig_mend %s --apply %s %s" % (self._options(), new, self._track())
         if self.is_part:

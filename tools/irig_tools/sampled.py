@@ -23,6 +23,12 @@ def can_be_long(path: str) -> bool:
     return os.path.getsize(path) > (LARGE_PACKED if is_packed else LARGE)
 
 
+def is_packed_folder(path: str) -> bool:
+    """Whether a file is one of sigrok, if it is read at all."""
+    with open(path, "rb") as file:
+        return file.read(len(ZIP)) == ZIP
+
+
 @contextmanager
 def sample(path: str, place: int) -> Iterator[str]:
     """The path of a dump with the declarations, and what comes after that many bytes; a problem if nothing does."""

@@ -8,7 +8,7 @@ from typing import IO, Dict, List, Optional, cast
 
 from .analysis import Findings
 from .damage import look
-from .dump_choice import Signal, wire_name, wire_text, wire_texts
+from .dump_choice import Signal, singles, wire_name, wire_text, wire_texts
 from .dump_header import shown
 from .editor import Editor
 from .kept_wire import write_kept
@@ -120,9 +120,10 @@ def _lasting(editor: Editor, first: Findings) -> Dict[str, int]:
 class What:
     """One dump of a file."""
 
-    def __init__(self, path: str, shown_path: str, unit: str, dump: int, is_part: bool = False) -> None:
-        """The path can be that of a part of the dump."""
-        self.path, self.shown_path, self.unit, self.dump, self.is_part = path, shown_path, unit, dump, is_part
+    def __init__(self, path: str, shown_path: str, unit: str, dump: int, is_part: bool = False, is_of_sigrok: bool = False) -> None:
+        """The path can be that of a part of the dump, or of a file of sigrok."""
+        self.path, self.shown_path, self.unit, self.dump = path, shown_path, unit, dump
+        self.is_part, self.is_of_sigrok = is_part, is_of_sigrok
         self.found: Found = search(path, unit, dump)
         self.carriers = self._read_all(self.found.probes[:MOST_READ])
         self.carriers = sorted(self.carriers, key=lambda carrier: (-carrier.fine, -carrier.led))
@@ -194,9 +195,10 @@ class What:
         """How to continue, for the wire with the most fine frames."""
         carrier = self.carriers[0]
         name, edits = self._wire_option(), sum(1 for repair in carrier.script if repair.edits)
-        is_read = self.is_part or (not carrier.inverted if carrier.script else self._is_read(carrier, name))
+        has_beside = self.is_of_sigrok and len(singles(self.found.header)) > 1
+        is_read = not has_beside and (self.is_part or (not carrier.inverted if carrier.script else self._is_read(carrier, name)))
         return Proposal(self.shown_path, name, carrier.kind, carrier.expression, None if is_read else self._extraction(carrier, name),
-                        carrier.places or 0, edits, len(carrier.script) - edits, self._choice(), self.is_part)
+                        carrier.places or 0, edits, len(carrier.script) - edits, self._choice(), self.is_part, has_beside)
 
     def _is_read(self, carrier: CodeWire, name: Optional[str]) -> bool:
         """Whether the editor reads the wire of the dump as it is; irig_mend does, if it is upright."""

@@ -12,7 +12,7 @@ from .escapes import in_line
 from .facts import json_lines as objects
 from .options import DUMP, JSON, TIMESCALE, Command, Given
 from .output import check_apart
-from .sampled import PLACES, can_be_long, sample
+from .sampled import PLACES, can_be_long, is_packed_folder, sample
 from .search import HOPELESS, WINDOW
 from .texts import counted
 from .what import What
@@ -24,8 +24,8 @@ upside down, in which format, and for each coded expression how many frames are
 fine, with the time of the first and of the last. The last line is the command to
 continue with: irig_mend for a damaged recording, else irig_ed. It writes over no
 file that is there. DUMP is any dump that irig_wire reads; - is standard input.
-Of a table, or of a WAV file, it says which column or channel has time code, and
-the last line has all commands up to the time of day of the other ones.
+Of a table, a WAV file or a file of sigrok it says which column or channel has
+time code, and the last line has all commands up to the time of day of the others.
 """, (TIMESCALE, DUMP, JSON), """\
 The editor is the program that IRIG_ED names, or irig_ed on the path.
 The status is 0 if just one wire carries time code, 1 if none does or several,
@@ -47,7 +47,7 @@ def work(given: Given) -> int:
             return say_lanes(lanes, name, given.has(JSON))
         unit, dump = given.text(TIMESCALE) or "", given.number(DUMP)
         part = what_of_a_part(path, name, unit, parts) if dump is None and can_be_long(path) else None
-        what = part or What(path, name, unit, dump or 1)
+        what = part or What(path, name, unit, dump or 1, is_of_sigrok=is_packed_folder(path))
         sys.stdout.write(as_json(what) if given.has(JSON) else as_text(what))
     return ALL_RIGHT if what.carriers and what.sure() else FOUND
 
@@ -70,7 +70,7 @@ def what_of_a_part(path: str, name: str, unit: str, parts: ExitStack) -> Optiona
     for place in PLACES:
         progress(in_line("looking at a part of %s" % name_of(name)))
         with suppress(Problem):
-            what = What(parts.enter_context(sample(path, place)), name, unit, 1, True)
+            what = What(parts.enter_context(sample(path, place)), name, unit, 1, True, is_packed_folder(path))
             if what.carriers and what.carriers[0].fine:
                 progress("")
                 return what

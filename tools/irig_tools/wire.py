@@ -3,7 +3,7 @@ from __future__ import annotations
 
 from bisect import bisect_right
 from dataclasses import dataclass, field
-from typing import IO, List, Optional, Sequence, Tuple
+from typing import IO, List, Optional, Protocol, Sequence, Tuple
 
 from .dump_body import Body, Wanted
 from .dump_choice import Signal, choose, wire_text
@@ -172,11 +172,24 @@ class Writer:
         return (SWAPPED[letter] if self.wish.invert else letter) + "!"
 
 
+class Beside(Protocol):
+    """Takes the changes of the wires next to the one that is written; they have numbers after those of all that are written."""
+
+    def begin(self, path: str, header: Header, signal: Signal, wanted: Wanted, number: int) -> None:
+        ...
+
+    def take(self, time: int, number: int, letter: str, writer: Writer, body: Body) -> None:
+        ...
+
+    def flush(self) -> None:
+        ...
+
+
 class Extract:
     """One wire out of a file of dumps."""
 
-    def __init__(self, path: str, wish: Wish, out: IO[bytes]) -> None:
-        self.source, self.wish, self.out = Source(path), wish, out
+    def __init__(self, path: str, wish: Wish, out: IO[bytes], beside: Optional[Beside] = None) -> None:
+        self.source, self.wish, self.out, self.beside = Source(path), wish, out, beside
         self.report = Report()
 
     def run(self) -> Report:
@@ -193,6 +206,8 @@ class Extract:
         """The writer of the wire, whose changes have a number."""
         unit, signal = unit_in(header, self.wish.unit, self.source.path), choose(header, self.wish.name)
         wanted.add(number, signal.code, signal.place)
+        if self.beside:
+            self.beside.begin(self.source.path, header, signal, wanted, number + 1)
         return Writer(self.out, signal, unit, self.wish, header.offset)
 
     def end(self, header: Header, body: Body, writer: Writer) -> None:
@@ -206,7 +221,7 @@ class Extract:
         self.report.done += self.source.notes + header.notes
         say("the wire is %s" % wire_text(header, signal))
         others = len({wire.code for wire in header.wires} - {signal.code})
-        if others:
+        if others and not self.beside:
             say("%d other wire%s left out" % (others, " was" if others == 1 else "s were"))
         if unit.text.replace(" ", "") != named.replace(" ", ""):
             many = "" if unit.factor == 1 else ", and every time is multiplied by %d" % unit.factor
@@ -253,8 +268,14 @@ def _written(source: Source, header: Header, extracts: Sequence[Extract]) -> Bod
     wanted = Wanted()
     writers = [extract.begin(header, wanted, place) for place, extract in enumerate(extracts)]
     body = Body(source, wanted, lambda run: writers[0].take_run(run, body))
+    beside = extracts[0].beside
     for time, place, letter in body.changes():
-        writers[place].take(time, letter, body)
+        if place < len(writers):
+            writers[place].take(time, letter, body)
+        elif beside:
+            beside.take(time, place, letter, writers[0], body)
+    if beside:
+        beside.flush()
     for extract, writer in zip(extracts, writers):
         writer.finish(body)
         extract.end(header, body, writer)
