@@ -84,6 +84,28 @@ def numbers_typed():
         yield from in_folder(lambda: list(holds()), rec=text)
 
 
+def numbers_in_windows():
+    """A window that is read from the middle of the recording on counts its pulses from the beginning of the recording. A pulse that is in
+    two comes before all but the first of the rises that are late."""
+    places, late = (2050, 15050, 25350), [list(pulse) for pulse in signal(270)]
+    for place in places:
+        late[place][0] += 700
+    rise, fall = late[2231]
+    late[2231:2232] = [[rise, rise + 700], [fall - 600, fall]]
+
+    def holds():
+        for size in ({}, {"IRIG_WINDOW": "3200"}):
+            with mock.patch.dict(os.environ, size):
+                printed = run("irig_mend", [*CODE, "--apply", "new.vcd", "rec.vcd"])[1].decode().splitlines()
+            found = [int(number) for _, lines in left_out(printed)[::-1] for number in {line.split()[0] for line in lines}]
+            yield same("the pulses, with %s" % size, found, [place + 1 for place in places])
+        with mock.patch.dict(os.environ, IRIG_WINDOW="3200"):
+            windows = run("irig_wire", ["--windows", "rec.vcd"])[1].decode().splitlines()
+        yield same("a window begins in the middle", windows[-1].split()[0] != "0", True)
+
+    return in_folder(lambda: list(holds()), rec=damages.dump(late, 270000000))
+
+
 def numbers_of_a_step():
     """A pulse is cut in two before the rest comes late: from pulse 452 on in the recording, and from pulse 451 on in the repaired one."""
     def said(lines):
@@ -134,6 +156,8 @@ def order_of_lines():
 
     def holds():
         lines = run("irig_mend", [*CODE, "--apply", "new.vcd", "rec.vcd"])[1].decode().splitlines()
+        yield same("the guesses are repaired, and count as that", lines[0].partition("; ")[0],
+                   "rec.vcd: 3 places found, 1 repaired (1 by a guess), 1 undecided, 0 left, 1 step that stays")
         found = [line.partition("rec.vcd: ")[2] for line in lines[1:]]
         yield same("what comes after the sums", [line.partition(": ")[0] if line[0] != "f" else "frame" for line in found],
                    ["control functions of 3 frames are not in the recording", "frame", "stays", "undecided"])
@@ -165,6 +189,6 @@ def lines_of_guesses():
 def cases(top):
     """Each kind by its name."""
     return [case("lines: " + name, holds) for name, holds in (
-        ("numbers that are typed", numbers_typed), ("numbers of a step", numbers_of_a_step),
-        ("numbers that are said", numbers_that_are_said),
+        ("numbers that are typed", numbers_typed), ("numbers in windows", numbers_in_windows),
+        ("numbers of a step", numbers_of_a_step), ("numbers that are said", numbers_that_are_said),
         ("their order", order_of_lines), ("guesses", lines_of_guesses))]

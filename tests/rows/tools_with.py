@@ -25,6 +25,7 @@ FRAMES, DAY = 30, 739000
 CHANCE = random.Random(88)
 SENT = [CHANCE.getrandbits(18) for _ in range(FRAMES)]
 LOST = 1063  # a control function of the frame of 12:00:10
+ALONE = 1064  # one that neither of the frames next to it has so
 
 
 def sent(k):
@@ -789,22 +790,24 @@ def that_differ():
 
 
 def of_most():
-    """Two of three recordings agree against a frame that is fine here: with --trust-most they decide, and each rise stays."""
-    pulses, two = flipped(code(), LOST), (slow(code()), slow(code(), -0.0004))
-    here, there = class_at(pulses, LOST), class_at(code(), LOST)
-    for name, others_have, wanted in (
-            ("two", two, {LOST: there}), ("one", two[:1], {}), ("one of two", (two[0], slow(pulses, -0.0004)), {})):
-        found = mended(pulses, *others_have, trusts_most=True)
-        yield same(name + " have it otherwise", (found[0], len(found[3])), (wanted, int(name == "one")))
-    yield same("without it", (mended(pulses, *two)[0], len(mended(pulses, *two)[3])), ({}, 1))
-    reason, = mended(pulses, *two, trusts_most=True)[1]
-    name = {"0": "zero", "1": "one"}
-    yield same("its reason", reason, "a %s as recorded in B.vcd at %s and C.vcd at %s, as most recordings have it" % (
-        name[there], place_of(two[0], LOST), place_of(two[1], LOST)))
-    yield from of_most_applied(pulses, two, "%d wide, a %s; " % ({"0": 2000, "1": 5000}[here], name[here]) + reason)
+    """Two of three recordings agree against a frame that is fine here: with --trust-most they decide, and each rise stays, whatever the
+    frames next to it have."""
+    for place in (LOST, ALONE):
+        pulses, two = flipped(code(), place), (slow(code()), slow(code(), -0.0004))
+        here, there = class_at(pulses, place), class_at(code(), place)
+        for name, others_have, wanted in (
+                ("two", two, {place: there}), ("one", two[:1], {}), ("one of two", (two[0], slow(pulses, -0.0004)), {})):
+            found = mended(pulses, *others_have, trusts_most=True)
+            yield same(name + " have it otherwise", (found[0], len(found[3])), (wanted, int(name == "one")))
+        yield same("without it", (mended(pulses, *two)[0], len(mended(pulses, *two)[3])), ({}, 1))
+        reason, = mended(pulses, *two, trusts_most=True)[1]
+        name = {"0": "zero", "1": "one"}
+        yield same("its reason", reason, "a %s as recorded in B.vcd at %s and C.vcd at %s, as most recordings have it" % (
+            name[there], place_of(two[0], place), place_of(two[1], place)))
+        yield from of_most_applied(place, pulses, two, "%d wide, a %s; " % ({"0": 2000, "1": 5000}[here], name[here]) + reason)
 
 
-def of_most_applied(pulses, two, reason):
+def of_most_applied(place, pulses, two, reason):
     """The recording, with other damage that has to be repaired and a rise that is late, is written so, and a line says it."""
     late(pulses, LOST + 205, 600)
     lost = [pulse for at, pulse in enumerate(pulses) if at != 420]
@@ -814,7 +817,7 @@ def of_most_applied(pulses, two, reason):
         status, printed, _ = mend(*words)
         yield same("without it", (status, [line.partition("rec.vcd: ")[2][:7] for line in printed[1:]]), (1, ["differs", "undecid"]))
         status, printed, _ = mend(*words, "--trust-most")
-        line = "trusted: at 10630000: frame 2024-115T12:00:10, element 63, pulse 1064: " + reason
+        line = "trusted: at %d: frame 2024-115T12:00:10, element %d, pulse %d: %s" % (10000 * place, place % 100, place + 1, reason)
         yield same("with it", (status, [each.partition("rec.vcd: ")[2] for each in printed[1:2]]),
                    (1, [line.replace("B", "b", 1).replace("C", "c", 1)]))
         wanted = [list(pulse) for pulse in code()]

@@ -36,7 +36,7 @@ class Stretches:
 
 def undecided_of(script: Sequence[Repair]) -> List[Repair]:
     """The comments on what nothing decides, but not where another recording differs."""
-    return [each for each in script if not each.edits and each.undecided and each.kind != DamageKind.DIFFERS]
+    return [each for each in script if each.undecided and each.kind != DamageKind.DIFFERS]
 
 
 def without_line(damages: Sequence[Damage], script: Sequence[Repair], refused: Refused, interval: int) -> List[Damage]:
