@@ -9,11 +9,13 @@ from built import DIFF, TIME
 from cases import case
 from irig_tools import align_program, damage_program, demodulate_program, escapes, join_program, mend_program, what_program, wire_program
 from random_input import damages
+from rows import in_process
 from rows.tools_apply import END, recorded, same
 from rows.tools_outputs import DAMAGED
 from rows.tools_what import dump
 
 PROGRAMS = what_program, wire_program, damage_program, mend_program, demodulate_program, align_program, join_program
+in_process.MAINS.update({each.COMMAND.name: each.main for each in PROGRAMS})
 FILES = "FILE", "ORIGINAL", "OTHER", "FOLDER"  # how the value of an option is called that is a file
 PLAIN = "plain.vcd"
 NAMES = (
@@ -28,15 +30,20 @@ TIMED = "time,t\n061T12:34:56.000000,1\n"
 TABLE = "time,%s,value\n" + "".join("%d,%d,%d\n" % (number, number % 3, number % 2) for number in range(9))
 
 
+def started(name):
+    """Each tool with a file that is not there, started as a program: its first lines are a script of sh."""
+    return [(each.COMMAND.name, ["--", "none" + name, *[name] * (each is join_program)]) for each in PROGRAMS]
+
+
 def commands(name):
-    """Each tool with each of its options that names a file, and with a file that is not there."""
+    """Each tool with each of its options that names a file."""
     new, other, folder = "new/" + name, "other" + name, "in" + name
-    yield from ((tool, ["--", "none" + name]) for tool in ("irig_what", "irig_wire", "irig_damage", "irig_mend", "irig_demodulate"))
     yield from (("irig_what", [*words, "--", name]) for words in ([], ["--json"]))
     yield "irig_wire", ["--out=" + new, "--", name]
     yield "irig_wire", ["--", name, name]
     yield "irig_wire", ["--", "two" + name]
     yield "irig_wire", ["--into=" + name, "--", name]
+    yield "irig_wire", ["--changes=%s.4" % new, "--out=%s.5" % new, "--", "two" + name, "irig"]
     yield "irig_damage", ["--page=%s.html" % new, "--picture=%s.svg" % new, "--", name]
     yield "irig_damage", ["--json", "--wire=" + name, "--", name]
     yield from (("irig_mend", [*words, "--", name]) for words in ([], ["--json"], ["--wire=" + name]))
@@ -69,9 +76,17 @@ def filled(name):
 
 
 def ran(top, tool, words):
-    """The status, what is printed and what is said, as lines."""
+    """The status, what is printed and what is said, as lines, of a tool that is started as a program."""
     done = subprocess.run([os.path.join(top, "tools", tool), *words], input=b"1000 1\n", capture_output=True, check=False)
-    return [done.returncode, *(text.decode("utf-8", "surrogateescape").split("\n") for text in (done.stdout, done.stderr))]
+    return as_lines(done.returncode, done.stdout, done.stderr)
+
+
+def as_lines(status, *texts):
+    return [status, *(text.decode("utf-8", "surrogateescape").split("\n") for text in texts)]
+
+
+def ran_apart(tool, words):
+    return as_lines(*in_process.run_apart(tool, words, b"1000 1\n"))
 
 
 def written():
@@ -111,12 +126,12 @@ def each_command(top, name):
         try:
             filled(name)
             found = []
-            for tool, words in commands(name):
-                status, printed, said = ran(top, tool, words)
+            runs = [(each, ran(top, *each)) for each in started(name)] + [(each, ran_apart(*each)) for each in commands(name)]
+            for (tool, words), (status, printed, said) in runs:
                 raw = RAW.findall("".join(printed + said))
                 found.append(((tool, *words), (status, len(printed), len(said), raw)))
             found.append((("the files",), list(written())))
-            line = ran(top, "irig_what", ["--", name])[1][-2]
+            line = ran_apart("irig_what", ["--", name])[1][-2]
             found.append((("the command", line), list(continued(top, line))))
             found.append((("what was made",), len(set(os.listdir(".")) - {PLAIN, name})))
         finally:
@@ -124,15 +139,18 @@ def each_command(top, name):
         return found
 
 
-def named(top, name):
-    """A file of this name is like one of a plain name: no line more, no letter that commands a terminal, and no file besides."""
-    for (words, got), (_, wanted) in zip(each_command(top, name), each_command(top, PLAIN)):
-        yield same(ascii(words), got, wanted)
+def named(top):
+    """A file of each of these names is like one of a plain name: no line more, no letter that commands a terminal, and no file besides."""
+    plain = each_command(top, PLAIN)
+    for _, name in NAMES:
+        for (words, got), (_, wanted) in zip(each_command(top, name), plain):
+            yield same(ascii(words), got, wanted)
 
 
 def walked(top):
     """No tool and no option that names a file is forgotten."""
     tools = {name for name in os.listdir(os.path.join(top, "tools")) if name != "irig_tools"}
+    yield same("the tools that are started", {tool for tool, _ in started("name")}, tools)
     used = {(tool, word.partition("=")[0]) for tool, words in commands("name") for word in words if word.startswith("--")}
     wanted = {(each.COMMAND.name, option.name) for each in PROGRAMS for option in each.COMMAND.options if option.value in FILES}
     yield same("the tools", {tool for tool, _ in commands("name")}, tools)
@@ -149,7 +167,7 @@ def wire(top, name):
                 other = "$var wire 1 ? other $end $enddefinitions"
                 file.write(re.sub(r"(\$var wire 1 \S+) \S+", lambda found: found[1] + " " + name, dump(*DAMAGED), 1).replace(
                     "$enddefinitions", other, 1))
-            done = [ran(top, tool, ["rec.vcd"]) for tool in ("irig_what", "irig_damage", "irig_mend", "irig_wire")]
+            done = [ran_apart(tool, ["rec.vcd"]) for tool in ("irig_what", "irig_damage", "irig_mend", "irig_wire")]
             raw = RAW.findall("".join(line for _, *texts in done for text in texts for line in text))
             yield same("the statuses, and letters", ([status for status, _, _ in done], raw), ([0, 1, 1, 2], []))
             yield same("the command", [each[:1] for each in continued(top, done[0][1][-2])], [(0,), (0,)])
@@ -185,6 +203,6 @@ def words():
 
 def cases(top):
     """Each part by its name."""
-    return [*(case("names: of a file: " + what, named, top, name) for what, name in NAMES),
+    return [case("names: of a file", named, top),
             *(case("names: of a wire: " + ascii(name), wire, top, name) for name in WIRES),
             case("names: all tools and options", walked, top), case("names: texts", texts), case("names: words of a command", words)]
