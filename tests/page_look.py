@@ -176,6 +176,8 @@ def changes(browser: Browser, address: str) -> None:
     sheet = repaired().changes
     assert sheet is not None
     browser.open(address + "#changed-2")
+    states = "[...document.querySelectorAll('#list .state')].map((each) => each.textContent).join()"
+    check("the list has what was repaired", "repaired,repaired,left to you,repaired,repaired,left to you", browser.run(states))
     listed(browser, sheet)
     stretches(browser)
     marks(browser)

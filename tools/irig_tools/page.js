@@ -40,7 +40,7 @@ view.click = (time, y) => {
 };
 
 places.forEach((place, index) => {
-  const state = !isMended ? "" : isLeft(place) ? "left to you" : "repair";
+  const state = !isMended ? "" : isLeft(place) ? "left to you" : held.changes ? "repaired" : "repair";
   const item = make("li", {role: "option", id: `item-${index + 1}`, "aria-selected": "false", class: isLeft(place) ? "" : "done"},
     make("span", {class: "count"}, String(index + 1)), make("span", {class: "title"}, place.title),
     make("span", {class: "state" + (isLeft(place) ? " open" : "")}, state),
