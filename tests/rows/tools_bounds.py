@@ -88,8 +88,8 @@ ROWS = (
     ("white space, by xz", WIRE, lambda: in_xz([b"$comment ", *[b" " * 15000000] * 6]), 2, UNPACKED),
     ("words of 60 megabytes in a comment, by xz", WIRE, lambda: in_xz([b"$comment ", *[WORD + b" "] * 4, b"$end " + REPAIRED.encode()]),
      0, "the wire is c"),
-    ("white space of 60 megabytes in a comment, by xz", WIRE, lambda: in_xz([b"$comment ", *[b" " * 15000000] * 4, b"$end " + REPAIRED.encode()]),
-     0, "the wire is c"),
+    ("white space of 60 megabytes in a comment, by xz", WIRE,
+     lambda: in_xz([b"$comment ", *[b" " * 15000000] * 4, b"$end " + REPAIRED.encode()]), 0, "the wire is c"),
     ("one level for 600 million samples", WIRE, lambda: sigrok(100000000, 6), 1, "the wire never changes"),
 )
 

@@ -82,6 +82,12 @@ def of_sounds():
         yield from in_folder(lambda: list(holds()))
 
 
+def in_a_shell(command):
+    """The status of a command line with the tools and irig_time."""
+    path = os.pathsep.join([os.path.join(TOP, "tools"), os.path.dirname(TIME), os.environ["PATH"]])
+    return subprocess.run(command, shell=True, env={**os.environ, "PATH": path}, capture_output=True, text=True, check=False).returncode
+
+
 def chain_of_commands():
     """All commands that are printed, in a shell: the other column has its time of day. No file is written over."""
     def holds():
@@ -91,9 +97,7 @@ def chain_of_commands():
         with open("new.vcd", "w", encoding="ascii") as file:
             file.write("kept")
         command = run("irig_what", ["rec.csv"])[1].decode().splitlines()[-1]
-        path = os.pathsep.join([os.path.join(TOP, "tools"), os.path.dirname(TIME), os.environ["PATH"]])
-        done = subprocess.run(command, shell=True, env={**os.environ, "PATH": path}, capture_output=True, text=True, check=False)
-        yield same("the status", (done.returncode, text_of("new.vcd")), (0, "kept"))
+        yield same("the status", (in_a_shell(command), text_of("new.vcd")), (0, "kept"))
         lines = text_of("timed.txt").splitlines()
         edges, _ = track("B", 2, 30000)
         # a position identifier is before the first frame
@@ -106,21 +110,15 @@ def chain_of_commands():
 
 def chain_of_sigrok():
     """All commands for a file of sigrok: each change of the other channel, a clock that changes with each sample, has its time of day. The
-    file is read once, and what has no other channel is mended as any dump."""
+    file is read once."""
     def holds():
         with open("rec.sr", "wb") as file:
             file.write(packed())
-        with zipfile.ZipFile("alone.sr", "w") as folder:
-            folder.writestr("metadata", "[device 1]\ncapturefile=logic-1\nsamplerate=20 kHz\nprobe1=code\nunitsize=1\n")
-            folder.writestr("logic-1", bytes(levels()))
         with mock.patch.object(sigrok, "_samples", side_effect=sigrok._samples) as read:
             status, printed, _ = run("irig_what", ["rec.sr"])
         yield same("the channel", (status, printed.decode().partition("\n")[0], read.call_count),
                    (0, 'wire code (code ", path sigrok.code), upright, format B', 1))
-        command = printed.decode().splitlines()[-1]
-        path = os.pathsep.join([os.path.join(TOP, "tools"), os.path.dirname(TIME), os.environ["PATH"]])
-        done = subprocess.run(command, shell=True, env={**os.environ, "PATH": path}, capture_output=True, text=True, check=False)
-        yield same("its status", done.returncode, 0)
+        yield same("its status", in_a_shell(printed.decode().splitlines()[-1]), 0)
         apart = 1000000 // RATE
         # a position identifier is before the first frame
         wanted = ["061T12:34:%09.6f\t%d\tD0\t%d" % (20 + (time - 40000) / 1e6, time, time // apart % 2)
@@ -128,10 +126,20 @@ def chain_of_sigrok():
         lines = text_of("timed.txt").splitlines()
         found = lines[next(at for at, line in enumerate(lines) if "\t40000\t" in line):][:len(wanted)]
         yield same("the times of day", [pair for pair in zip(found, wanted) if pair[0] != pair[1]], [])
-        last = run("irig_what", ["alone.sr"])[1].decode().splitlines()[-1]
-        yield same("a channel alone", ("--changes" in last, last.startswith("irig_wire alone.sr > one-2.vcd && irig_ed ")), (False, True))
 
     return in_folder(lambda: list(holds()))
+
+
+def channel_alone():
+    """A file of sigrok with no other channel is mended as any dump."""
+    def holds():
+        with zipfile.ZipFile("rec.sr", "w") as folder:
+            folder.writestr("metadata", "[device 1]\ncapturefile=logic-1\nsamplerate=20 kHz\nprobe1=code\nunitsize=1\n")
+            folder.writestr("logic-1", bytes(levels()))
+        last = run("irig_what", ["rec.sr"])[1].decode().splitlines()[-1]
+        return same("the command", last.startswith("irig_wire rec.sr > one.vcd && irig_ed "), True)
+
+    return in_folder(holds)
 
 
 def of_other_files():
@@ -176,5 +184,5 @@ def cases(top):
     """Each kind by its name."""
     return [case("which: " + name, holds) for name, holds in (
         ("tables", of_tables), ("sound files", of_sounds), ("the chain of commands", chain_of_commands),
-        ("the chain of a file of sigrok", chain_of_sigrok), ("other files", of_other_files),
+        ("the chain of a file of sigrok", chain_of_sigrok), ("a channel alone", channel_alone), ("other files", of_other_files),
         ("each row once", read_once))]

@@ -41,8 +41,29 @@ dump was not read, and 70 if memory ran out or the tool has a defect.
 
 
 def work(given: Given) -> int:
+    check_choices(given)
     name, into = given.names[1] if len(given.names) > 1 else None, given.text(PUT_INTO)
-    start, end = given.number(FROM), given.number(TO)
+    for source in filter(None, (given.names[0], into)):
+        check_apart(source, [(OUTPUT.name, given.text(OUTPUT)), (CHANGES.name, given.text(CHANGES))], not given.has(OUTPUT))
+    chosen = name if into is None else given.text(INTO_WIRE)
+    wish = Wish(chosen, given.text(TIMESCALE), given.number(DUMP), given.number(FROM), given.number(TO), given.has(INVERT))
+    if given.has(WINDOWS):
+        return print_windows(given, wish)
+    track = None if into is None else TrackEdges(given.names[0], name)
+    with ExitStack() as outputs:
+        out = outputs.enter_context(output(given.text(OUTPUT)))
+        others = OtherWires(outputs.enter_context(output(given.text(CHANGES)))) if given.has(CHANGES) else None
+        report = PutBack(into, wish, track, out).run() if into and track else Extract(given.names[0], wish, out, others).run()
+    if others:
+        report.done.append(LINES_OF_CHANGES % (in_line(given.text(CHANGES) or ""), counted(others.count, "line")))
+    for text in report.done + report.doubtful:
+        complain(text, COMMAND.name)
+    return FOUND if report.doubtful else ALL_RIGHT
+
+
+def check_choices(given: Given) -> None:
+    """Refuses those that exclude each other, or have no effect."""
+    start, end, into = given.number(FROM), given.number(TO), given.text(PUT_INTO)
     if start is not None and end is not None and end < start:
         raise Usage("--to %d is before --from %d" % (end, start))
     if into is None and given.has(INTO_WIRE):
@@ -51,23 +72,6 @@ def work(given: Given) -> int:
         raise Usage("DUMP and ORIGINAL are both standard input; only one can be")
     if into is not None and given.has(CHANGES):
         raise Usage("--changes is for a dump that is read, and --into has a track")
-    for source in filter(None, (given.names[0], into)):
-        check_apart(source, [(OUTPUT.name, given.text(OUTPUT)), (CHANGES.name, given.text(CHANGES))], not given.has(OUTPUT))
-    chosen = name if into is None else given.text(INTO_WIRE)
-    wish = Wish(chosen, given.text(TIMESCALE), given.number(DUMP), start, end, given.has(INVERT))
-    if given.has(WINDOWS):
-        return print_windows(given, wish)
-    track = None if into is None else TrackEdges(given.names[0], name)
-    with ExitStack() as outputs:
-        out, beside = outputs.enter_context(output(given.text(OUTPUT))), None
-        if given.has(CHANGES):
-            beside = OtherWires(outputs.enter_context(output(given.text(CHANGES))))
-        report = PutBack(into, wish, track, out).run() if into and track else Extract(given.names[0], wish, out, beside).run()
-        if beside:
-            report.done.append(LINES_OF_CHANGES % (in_line(given.text(CHANGES) or ""), counted(beside.count, "line")))
-    for text in report.done + report.doubtful:
-        complain(text, COMMAND.name)
-    return FOUND if report.doubtful else ALL_RIGHT
 
 
 def print_windows(given: Given, wish: Wish) -> int:
