@@ -35,7 +35,7 @@ class TimedFile:
     path: str
     name: str
     comma: Optional[bytes]
-    header: int  # so many lines
+    header: int  # that many lines
     head: List[bytes] = field(default_factory=list)  # the names of the columns, of the time first
     form: Optional[int] = None  # of its times
     days: List[int] = field(default_factory=list)  # without a year: the first and the last
