@@ -59,7 +59,7 @@ class Browser:
 
         self.process = subprocess.Popen(
             [path, *OPTIONS, "--user-data-dir=" + self.home, "about:blank"], preexec_fn=ends, pass_fds=(3, 4),
-            start_new_session=True, env={**os.environ, "HOME": self.home}, **QUIET)
+            start_new_session=True, env={**os.environ, "HOME": self.home, "TMPDIR": self.home}, **QUIET)
         os.close(their_ear)
         os.close(their_mouth)
         self.heard, self.last, self.session = b"", 0, ""
