@@ -95,6 +95,7 @@ def in_any_size():
     chance = random.Random("align")
     lines, column = plain(4000), "--column=2"
     csv = "seconds,us\ns,%\n" + "".join("a,%.7f\n" % (time / 1e6 - 4.5) for time in moments(chance, 4000))
+    headed = "t_ms,v\n" + "".join("%d,5%s\n" % (time, ",6" * (number in (70, 90))) for number, time in enumerate(moments(chance, 400)))
     odd = "".join(chance.choice(NUMBERS).replace("%d", str(time)) + "\n" for time in moments(chance, 4000))
 
     def holds():
@@ -103,7 +104,8 @@ def in_any_size():
                 (odd.encode()[:-1], ["--why", "--year=1977"]), (odd.encode(), ["--comma=;", "--unit=ns", "--offset=-1.0005E+09"]),
                 (odd.encode(), ["--comma=;", "--unit=100ns", "--offset=-1.0005E+07"]),
                 (csv.encode(), ["--comma=,", column, "--header=2", "--name=UTC", "--unit=s", "--offset=-4.5", "--form=calendar"]),
-                (lines, [column, "--expression=0"]), (b"", []), (b"time\n", ["--header=3"])):
+                (headed.encode(), ["--comma=,", "--header=1"]), (headed.encode(), ["--comma=,", "--header=1", "--unit=ms", "--quiet"]),
+                (headed.encode(), ["--header=1", "--unit=ms"]), (lines, [column, "--expression=0"]), (b"", []), (b"time\n", ["--header=3"])):
             words = [*CODE[:1], *words, *[CODE[1]] * ("--expression=0" not in words), "track.vcd"]
             wanted = whole(words, given)
             for size in SIZES:

@@ -13,7 +13,7 @@ from typing import IO, Iterator, List, Optional, Tuple
 from .align_frames import TRACK_PULSES, LongTrack
 from .align_lines import PICOS, UNIT_PLACES, LineTimes, each_line, offset_of_lines, offset_text, pattern_of
 from .align_runs import Aligner, AlignerEnded, AlignerRun, Call
-from .align_tally import LineTally
+from .align_tally import LineTally, Widths
 from .align_years import years_of
 from .command import run, unchanged
 from .editor import Problem, called, find_beside, progress_to
@@ -63,6 +63,7 @@ if memory ran out or the tool has a defect.
 BATCH = 1 << 27  # bytes of lines that are aligned together
 NO_FRAME_TIMED = "%s: no frame has a time with this format and expression"
 DOUBTED = "%s: frames that read well and are not believed, so they give no line a time: %d"
+OTHER_UNIT = "the header names another unit of the recorder's time than --unit"
 BROKEN_OFF = 4  # a status of irig_time
 
 
@@ -161,7 +162,11 @@ class LongAlignment:
         self.number = sum(is_good for _, is_good in header)
         words = aligner_words(given, *OF_FRAMES, *OF_LINES, *OF_HEADER, OFFSET, YEAR)
         asked = Call([*words, ALIGN_QUIET.name, "--from=0", "--to=0"], b"".join(line for line, is_good in header if is_good))
-        out.write(self.aligner.run([asked], "looking at the track")[0].checked().printed())
+        looked = self.aligner.run([asked], "looking at the track")[0].checked()
+        self.is_other_unit = OTHER_UNIT in looked.said
+        comma = given.text(COMMA)
+        self.widths = Widths(comma.encode() if comma else None, header[-1][0] if header else None)
+        out.write(looked.printed())
         if header and not header[-1][1]:
             return self.too_long()
         self.track.read()
@@ -181,6 +186,7 @@ class LongAlignment:
                 return self.too_long()
             picos = times.picos(line)
             self.tally.add(picos)
+            self.widths.look(self.number + 1, line)
             if picos is not None and not self.parts[part].begin <= picos // PICOS < self.parts[part].end:
                 part = max(0, bisect_right(begins, picos // PICOS) - 1)
             batch.add(part, line)
@@ -227,9 +233,12 @@ class LongAlignment:
             complain(DOUBTED % (self.given.names[0], doubted), COMMAND.name)
         elif not self.track.frames:
             complain(NO_FRAME_TIMED % self.given.names[0], COMMAND.name)
+        for said in [OTHER_UNIT] * self.is_other_unit + [self.widths.said] * (self.widths.said != ""):
+            complain(said, COMMAND.name)
         if not self.given.values.get(ALIGN_QUIET.name):
             complain(self.tally.text(), COMMAND.name)
-        return ALL_RIGHT if self.track.frames and not doubted and not self.tally.unnumbered else FOUND
+        is_whole = not self.tally.unnumbered and not self.is_other_unit and not self.widths.said
+        return ALL_RIGHT if self.track.frames and not doubted and is_whole else FOUND
 
 
 def main() -> int:

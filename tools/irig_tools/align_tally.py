@@ -23,6 +23,23 @@ def length_said(said: str) -> int:
     return int(found[1]) * MICROS_A_SECOND + int(found[2] or 0) if found else 0
 
 
+class Widths:
+    """Whether lines have as many columns as the last line of the header, if a byte parts them."""
+
+    def __init__(self, comma: Optional[bytes], header: Optional[bytes]) -> None:
+        self.comma = comma or b""
+        self.header = header.count(self.comma) + 1 if comma and header is not None else None
+        self.said = ""
+
+    def look(self, number: int, line: bytes) -> None:
+        """Looks at a line with this number, from 1, until one has other columns."""
+        if self.header is None or self.said:
+            return
+        width = line.count(self.comma) + 1
+        if width != self.header:
+            self.said = "line %d: not as many columns as the header, %d and not %d; the first such line" % (number, width, self.header)
+
+
 @dataclass
 class LineTally:
     """How many lines are after the header, how many have a time or no number, and the picoseconds from which to which they are."""

@@ -1,5 +1,5 @@
 -- Lines that were stamped, and one more.
-use Rattle.std.proofs.Common.{◌≡◌, ◌==◌, ◌+◌, ◌^◌, ◌-◌, ◌<◌, ◌≤◌, ℕ, suc, Bool, true, not, ◌++◌, List, [], ◌∷◌, length, min, refl, sym, ap, ◌∙◌}
+use Rattle.std.proofs.Common.{◌≡◌, ◌==◌, ◌&&◌, ◌+◌, ◌^◌, ◌-◌, ◌<◌, ◌≤◌, ℕ, suc, Bool, true, not, ◌++◌, List, [], ◌∷◌, length, min, refl, sym, ap, ◌∙◌}
 use Rattle.std.proofs.Common.{append_assoc, subst, arith, inl, inr}
 use Rattle.std.specs.Prelude.{false, Option, Some, None, if◌then◌else◌}
 use Rattle.std.proofs.lemmas.{Bool.and_from, Bool.and_parts, Bool.cases_lt, Bool.le-ltb, List.append-nil, List.length-append}
@@ -8,6 +8,7 @@ use Rattle.irig_codes.specs.Format.{FormatView}
 use Rattle.irig_recording.specs.declared.pulse.Pulse.{Pulse}
 use Rattle.irig_track.specs.Looks.{counted}
 use Rattle.irig_stamps.specs.Looks.{header_look, line_look, look_at, looks}
+use Rattle.irig_stamps.specs.{HeaderUnits.names_other_unit}
 use Rattle.irig_stamps.specs.Stamped.{AreOut, Stamped, is_plain, unlines}
 use Rattle.irig_stamps.specs.{Stamps.IsOut, Stamps.header_word, Stamps.is_header, Tallies.IsTally}
 use Rattle.irig_stamps.specs.declared.{settings.Settings.Settings, look.Look.Look, tally.Tally.Tally}
@@ -85,14 +86,26 @@ module _ (f : FormatView) (ps : List Pulse) (s : Settings) where
         no-word count (le-ltb count s.header low) ∙ sym (no-word n (le-ltb n s.header lower))
   ]
 
+  -- what is seen of a line, by a count that stays at 2^64 - 1
+  same-number : (n count : ℕ) (line out : List ℕ) (b : Bool) → counted count 1 ≡ counted n 1
+      → (if b then header_look s count line else line_look s count line out) ≡ (if b then header_look s n line else line_look s n line out)
+  same-number n count line out true e = ap (λ (m : ℕ). record (header_look s n line) { number = m; other_unit = (m == s.header) && names_other_unit s line }) e
+  same-number n count line out false e = ap (λ (m : ℕ). record (line_look s n line out) { number = m }) e
+
+  look-counted : (n count : ℕ) (line out : List ℕ) → s.header < 2 ^ 64 → count ≡ min n (2 ^ 64 - 1) → look_at s count line out ≡ look_at s n line out
+  look-counted n count line out small is =
+      let number : counted count 1 ≡ counted n 1 = omega (arith, is) in
+      same-number n count line out (is_header s count) number
+      ∙ ap (λ (b : Bool). if b then header_look s n line else line_look s n line out) (header-counted n count small is)
+
   -- the end of a line
   pub stamped-line : (bytes text rest out : List ℕ) (count : ℕ) (tally after : Tally) (look : Look) → s.header < 2 ^ 64
       → Stamped f ps s bytes text rest count tally → IsOut f ps s (header_word s count) rest out → look ≡ look_at s count rest out
       → ((xs : List Look) → IsTally xs tally → IsTally (xs ++ look ∷ []) after)
       → Stamped f ps s (bytes ++ 10 ∷ []) (text ++ out) [] (counted count 1) after
   stamped-line bytes text rest out count tally after look small h k e add =
-      let same : is_header s count ≡ is_header s (0 + length h.lines) =
-      header-counted (length h.lines) count small h.counts ∙ ap (is_header s) (none-before (length h.lines)) in
+      let same : look_at s count rest out ≡ look_at s (0 + length h.lines) rest out =
+      look-counted (length h.lines) count rest out small h.counts ∙ ap (λ (n : ℕ). look_at s n rest out) (none-before (length h.lines)) in
       let word : header_word s count ≡ header_word s (0 + length h.lines) =
       word-counted (length h.lines) count small h.counts ∙ ap (header_word s) (none-before (length h.lines)) in
       let more : length (h.lines ++ rest ∷ []) ≡ length h.lines + 1 = length-append h.lines (rest ∷ []) in
@@ -107,6 +120,6 @@ module _ (f : FormatView) (ps : List Pulse) (s : Settings) where
         counts = omega (arith, more, h.counts);
         tallied = subst (λ (xs : List Look). IsTally xs after) (sym (looks-append 0 h.lines h.outs rest out h.each))
             (subst (λ (x : Look). IsTally (looks s 0 h.lines h.outs ++ x ∷ []) after)
-            (e ∙ ap (λ (b : Bool). if b then header_look else line_look s rest out) same)
+            (e ∙ same)
             (add (looks s 0 h.lines h.outs) h.tallied));
       }

@@ -1,9 +1,10 @@
 -- How a text is cut at the first byte of some kind, and a line into columns. This project's own.
-use Rattle.std.specs.Prelude.{◌==◌, ℕ, zero, suc, Bool, not, ◌&&◌, ◌||◌, nat_le, List, [], ◌∷◌}
-use Rattle.std.specs.Prelude.{Option, Some, None, if◌then◌else◌}
+use Rattle.std.specs.Prelude.{◌==◌, ℕ, zero, suc, Bool, not, ◌&&◌, ◌||◌, ◌-◌, nat_le, nat_lt, List, [], ◌∷◌}
+use Rattle.std.specs.Prelude.{Option, Some, None, if◌then◌else◌, take, drop, length}
+use Rattle.std.specs.List.{suffix_len}
 use Rattle.irig_stamps.specs.declared.cutting.Until.{Until}
 use Rattle.irig_stamps.specs.declared.cutting.Until.TheVariants.{Blank, NonBlank, NonDigit, Byte}
-use Rattle.irig_stamps.specs.declared.cutting.Until.TheVariants.{NonZero}
+use Rattle.irig_stamps.specs.declared.cutting.Until.TheVariants.{Alphanumeric, NonLetter, NonZero}
 
 -- the white space of a line: space, tab and carriage return
 abbrev pub is_space : ℕ → Bool
@@ -13,13 +14,22 @@ is_space b = (b == 32) || ((b == 9) || (b == 13))
 abbrev pub is_digit : ℕ → Bool
 is_digit b = nat_le 48 b && nat_le b 57
 
--- a text is cut before such a byte
+-- a letter; each byte above 127 counts as one, as those of µ
+abbrev pub is_letter : ℕ → Bool
+is_letter b = nat_lt 127 b || ((nat_le 65 b && nat_le b 90) || (nat_le 97 b && nat_le b 122))
+
+abbrev pub is_alphanumeric : ℕ → Bool
+is_alphanumeric b = is_letter b || is_digit b
+
+-- a text is cut before such a byte, or after it
 abbrev pub is_at : Until → ℕ → Bool
 is_at Blank b = is_space b
 is_at NonBlank b = not (is_space b)
 is_at NonDigit b = not (is_digit b)
 is_at (Byte c) b = b == c
 is_at NonZero b = not (b == 48)
+is_at Alphanumeric b = is_alphanumeric b
+is_at NonLetter b = not (is_letter b)
 
 -- what is before the first such byte
 abbrev pub before : Until → List ℕ → List ℕ
@@ -30,6 +40,14 @@ before until (b ∷ bs) = if is_at until b then [] else b ∷ before until bs
 abbrev pub onward : Until → List ℕ → List ℕ
 onward until [] = []
 onward until (b ∷ bs) = if is_at until b then b ∷ bs else onward until bs
+
+-- what is up to the last such byte
+abbrev pub up_to : Until → List ℕ → List ℕ
+up_to until text = take (length text - suffix_len (λ b. not (is_at until b)) text) text
+
+-- what is after the last such byte
+abbrev pub after_last : Until → List ℕ → List ℕ
+after_last until text = drop (length text - suffix_len (λ b. not (is_at until b)) text) text
 
 -- all but the first byte
 abbrev pub rest_of : List ℕ → List ℕ

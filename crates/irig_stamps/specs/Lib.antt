@@ -4,6 +4,7 @@ pub mod Dates
 pub mod Exponents
 pub mod Front
 pub mod HeaderSteps
+pub mod HeaderUnits
 pub mod Looks
 pub mod Named
 pub mod Numbers
@@ -19,3 +20,6 @@ pub mod Tables
 pub mod Tallies
 pub mod Texts
 pub mod TrackSettings
+pub mod Uneven
+pub mod UnitNames
+pub mod Widths

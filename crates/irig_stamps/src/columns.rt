@@ -4,8 +4,9 @@
 //! is left, all is before it and nothing from it on: so a column that a line does not have has no
 //! byte.
 
-ghost use Rattle.std.specs.Prelude.{◌≡◌, Some, None};
+ghost use Rattle.std.specs.Prelude.{◌≡◌, ◌==◌, ◌≤◌, Some, None, count_by, length};
 ghost use Rattle.irig_stamps.specs.Columns.{column_of, passed, word_at, part_at, rest_of};
+ghost use Rattle.irig_stamps.specs.Widths.{width_of};
 
 use crate::cutting::{Until, cut};
 
@@ -48,6 +49,24 @@ fn parted_column(comma: u8, k: usize, line: &[u8]) -> &[u8]
     }
     let (part, _) = cut(left, Until::Byte(comma));
     part
+}
+
+/// How many columns a line has, if the byte `comma` parts them; `None` if white space does.
+pub fn width(comma: Option<u8>, line: &[u8]) -> Option<usize>
+    ensures { result ≡ width_of comma line.now }
+{
+    match comma {
+        Some(comma) => Some(commas(comma, line) + 1),
+        None => None,
+    }
+}
+
+/// How many of its bytes are this one.
+fn commas(comma: u8, line: &[u8]) -> usize
+    ensures count { result ≡ count_by (λ b. b == comma) line.now }
+    ensures bound { result ≤ length line.now }
+{
+    line.iter().filter(|byte| **byte == comma).count()
 }
 
 /// What is left of a line after its first column; no byte if nothing comes after it. The first

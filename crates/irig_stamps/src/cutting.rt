@@ -1,8 +1,10 @@
-//! A text is cut before the first byte of some kind. So numbers and columns are read: `cut` gives
-//! what was read, and what is left.
+//! A text is cut before the first byte of some kind, or after the last one. So numbers, columns and
+//! units are read: `cut` gives what was read, and what is left; `cut_back` what is left, and what
+//! was read from the end.
 
 ghost use Rattle.std.specs.Prelude.{◌≡◌};
-ghost use Rattle.irig_stamps.specs.Columns.{is_space, is_digit, is_at, before, onward};
+ghost use Rattle.irig_stamps.specs.Columns.{after_last, is_alphanumeric, is_at, is_digit, is_letter};
+ghost use Rattle.irig_stamps.specs.Columns.{before, is_space, onward, up_to};
 
 /// The kind of byte that a text is cut before.
 #[derive(Clone, Copy)]
@@ -17,6 +19,10 @@ pub enum Until {
     Byte(u8),
     /// Any byte that is not the digit 0.
     NonZero,
+    /// A letter or a digit.
+    Alphanumeric,
+    /// Any byte that is no letter.
+    NonLetter,
 }
 
 impl Until {
@@ -30,6 +36,8 @@ impl Until {
             Until::NonDigit => !is_digit(byte),
             Until::Byte(one) => byte == one,
             Until::NonZero => byte != b'0',
+            Until::Alphanumeric => is_alphanumeric(byte),
+            Until::NonLetter => !is_letter(byte),
         }
     }
 }
@@ -47,6 +55,19 @@ pub fn cut(text: &[u8], until: Until) -> (&[u8], &[u8])
     (&text[..at], &text[at..])
 }
 
+/// Cuts a text after the last byte of a kind: returns what is up to that byte, and what is after
+/// it. If there is no such byte, nothing is up to it, and all is after it.
+pub fn cut_back(text: &[u8], until: Until) -> (&[u8], &[u8])
+    ensures up_to { result.0.now ≡ up_to until text.now }
+    ensures after { result.1.now ≡ after_last until text.now }
+{
+    let mut at = text.len();
+    while at > 0 && !until.stops_at(text[at - 1]) {
+        at -= 1;
+    }
+    (&text[..at], &text[at..])
+}
+
 /// Whether a byte is white space in a line: a space, a tab or a carriage return.
 fn is_space(byte: u8) -> bool
     ensures { result ≡ is_space byte }
@@ -59,4 +80,19 @@ pub fn is_digit(byte: u8) -> bool
     ensures { result ≡ is_digit byte }
 {
     matches!(byte, b'0'..=b'9')
+}
+
+/// Whether a byte is a letter. Each byte above 127 counts as one: it is a part of a character that
+/// ASCII does not have, as µ.
+fn is_letter(byte: u8) -> bool
+    ensures { result ≡ is_letter byte }
+{
+    byte > 127 || matches!(byte, b'A'..=b'Z' | b'a'..=b'z')
+}
+
+/// Whether a byte is a letter or a decimal digit.
+fn is_alphanumeric(byte: u8) -> bool
+    ensures { result ≡ is_alphanumeric byte }
+{
+    is_letter(byte) || is_digit(byte)
 }

@@ -8,12 +8,13 @@
 
 ghost use Rattle.std.specs.Prelude.{◌≡◌, ◌<◌, ◌≤◌, ◌^◌, ◌++◌, ◌∷◌, [], ℕ, List, Some};
 ghost use Rattle.std.specs.Prelude.{IfOk, IfSome, OnOk, unwrap_or};
-ghost use Rattle.irig_stamps.specs.Looks.{begins, line_look, look_at};
+ghost use Rattle.irig_stamps.specs.Looks.{begins, header_look, line_look, look_at};
 ghost use Rattle.irig_stamps.specs.Stamps.{IsOut, IsStamped, header_word};
 ghost use Rattle.irig_stamps.specs.Reasons.{IsKnownOf};
 
-use crate::columns::column;
+use crate::columns::{column, width};
 use crate::cutting::is_digit;
+use crate::header_unit::names_other_unit;
 use crate::knowledge::Known;
 use crate::look::Look;
 use crate::moment::moment_of;
@@ -48,9 +49,26 @@ pub fn put_line_out(
     if count < settings.header {
         text.extend_from_slice(header_word(settings, count))?;
         put_separated(text, settings.comma, line)?;
-        return Ok(Look::of_header());
+        return Ok(header_look(settings, count, line));
     }
-    put_stamped(text, pulses, known, format, settings, line)
+    put_stamped(text, pulses, known, format, settings, count, line)
+}
+
+/// What is seen of a line of the header. `count` lines are before it.
+fn header_look(settings: &Settings<'_>, count: u64, line: &[u8]) -> Look
+    ensures { result ≡ header_look settings.now count line.now }
+{
+    let number = count.saturating_add(1);
+    let is_last = number == settings.header;
+    Look {
+        number,
+        width: width(settings.comma, line),
+        header: true,
+        other_unit: is_last && names_other_unit(settings, line),
+        numbered: true,
+        timed: false,
+        moment: None,
+    }
 }
 
 /// The word before a line of the header: before its last line the name of the new column of times
@@ -76,6 +94,7 @@ fn put_stamped(
     known: &Known,
     format: Format,
     settings: &Settings<'_>,
+    count: u64,
     line: &[u8],
 ) -> Result<Look, AllocError>
     requires known { IsKnownOf format settings.now pulses.old.track.pulses known.now }
@@ -85,7 +104,7 @@ fn put_stamped(
     ensures stamped { IfOk result (λ look. (out : List ℕ)
         × IsStamped format pulses.old.track.pulses settings.now line.now out
         × (text.new.items ≡ text.old.items ++ out)
-        × (look ≡ line_look settings.now line.now out)) }
+        × (look ≡ line_look settings.now count line.now out)) }
     ensures pulses { pulses.new.track ≡ pulses.old.track }
 {
     let column = column(settings.comma, settings.column, line);
@@ -95,7 +114,10 @@ fn put_stamped(
     put_stamp(text, settings, stamp)?;
     put_separated(text, settings.comma, line)?;
     Ok(Look {
+        number: count.saturating_add(1),
+        width: width(settings.comma, line),
         header: false,
+        other_unit: false,
         numbered: number.is_some(),
         timed: begins(&text[start..]),
         moment: moment_of(settings, number),

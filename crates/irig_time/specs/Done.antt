@@ -1,5 +1,5 @@
 -- How a run over all lines ended, and its status. This project's own.
-use Rattle.std.specs.Prelude.{◌≡◌, ◌==◌, ◌<◌, ℕ, Bool, true, false, Some, if◌then◌else◌}
+use Rattle.std.specs.Prelude.{◌≡◌, ◌==◌, ◌&&◌, ◌<◌, ℕ, Bool, true, false, not, Some, is_none, if◌then◌else◌}
 use Rattle.irig_stamps.specs.declared.outcome.Outcome.{Outcome}
 use Rattle.irig_stamps.specs.{declared.tally.Tally.Tally}
 use Rattle.irig_time.specs.declared.ending.Ending.TheVariants.{Aligned, Timeless, Doubted}
@@ -23,6 +23,10 @@ EndsAs chosen micros outcome (Doubted path count (Some done)) =
     × ((outcome.standing.doubted ≡ count) × (0 < count))
 EndsAs chosen micros outcome _ = ⊥
 
--- the status of a run over all lines whose track has nothing wrong: 0 if each line has a number
+-- each line has a number, and as many columns as the header, which names no other unit
+abbrev pub is_whole : Tally → Bool
+is_whole tally = (tally.unnumbered == 0) && (is_none tally.uneven && not tally.other_unit)
+
+-- the status of a run over all lines whose track has nothing wrong
 abbrev pub lines_status : Tally → ℕ
-lines_status tally = if tally.unnumbered == 0 then 0 else 1
+lines_status tally = if is_whole tally then 0 else 1

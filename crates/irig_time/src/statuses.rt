@@ -1,21 +1,23 @@
 //! The statuses of the program as a process, and what it says of faults. 0 is that each line had a
-//! number or the table was printed, 1 that a line had none, that frames are not believed or that
-//! none has a time, 2 a mistake in the command line, 3 a track that was not read, 4 that the run
-//! was broken off, and 141 that nobody reads its output any more. A frame is believed if another
-//! one near it supports its time. `tell` and `tell_of` print a fault on the standard error, the
-//! latter with a path, and return the status that they get. `explain` prints the help with status
-//! 0, or with 2 what is wrong with the words; the status is 4 if the help cannot be printed. In a
-//! contract, `contents` is what came to an output, and `Reports` says what the output of help and
-//! the status are for an ending.
+//! number and fits the header, or the table was printed, 1 that a line or the header did not, that
+//! frames are not believed or that none has a time, 2 a mistake in the command line, 3 a track that
+//! was not read, 4 that the run was broken off, and 141 that nobody reads its output any more. A
+//! frame is believed if another one near it supports its time. A line fits the header if it has as
+//! many columns, and the header fits if it names no other unit than that of the command line.
+//! `tell` and `tell_of` print a fault on the standard error, the latter with a path, and return the
+//! status that they get. `explain` prints the help with status 0, or with 2 what is wrong with the
+//! words; the status is 4 if the help cannot be printed. In a contract, `contents` is what came to
+//! an output, and `Reports` says what the output of help and the status are for an ending.
 
 ghost use Rattle.std.specs.Prelude.{◌≡◌};
 ghost use Rattle.std.specs.Process.{exit_status};
-ghost use Rattle.irig_time.specs.{Done.lines_status, Statuses.Reports, Statuses.broken_status};
+ghost use Rattle.irig_time.specs.{Done.is_whole, Done.lines_status, Statuses.Reports};
+ghost use Rattle.irig_time.specs.{Statuses.broken_status};
 
 use crate::done::Done;
 use crate::ending::Ending;
 use crate::help::program;
-use irig_stamps::{PrintFault, RunFault};
+use irig_stamps::{PrintFault, RunFault, Tally};
 use std::io::Write;
 use std::process::ExitCode;
 
@@ -52,15 +54,23 @@ fn tell_broken<R: Eprint>(rt: &R, fault: &RunFault) -> ExitCode
     }
 }
 
-/// Says what was done with the lines, and returns the status: 0 if each has a number, else 1.
+/// Says what was done with the lines, and returns the status: 0 if each has a number and as many
+/// columns as the header, and this names no other unit, else 1.
 fn tell_aligned<R: Eprint>(rt: &R, done: &Done) -> ExitCode
     ensures { exit_status result ≡ lines_status done.now.tally }
 {
     tell_done(rt, done);
-    if done.tally.unnumbered == 0 {
+    if is_whole(&done.tally) {
         return ExitCode::SUCCESS;
     }
     ExitCode::from(1)
+}
+
+/// Whether each line has a number, and as many columns as the header, which names no other unit.
+fn is_whole(tally: &Tally) -> bool
+    ensures { result ≡ is_whole tally.now }
+{
+    tally.unnumbered == 0 && tally.uneven.is_none() && !tally.other_unit
 }
 
 /// Says that no frame of the track at this path has a time, and what was done with the lines, if
@@ -89,8 +99,22 @@ fn tell_doubted<R: Eprint>(rt: &R, path: &str, count: usize, done: &Option<Done>
     ExitCode::from(1)
 }
 
-/// Says what was done with the lines, unless that is not asked for.
+/// Says whether the header names another unit; which line is the first that has another number of
+/// columns than the header, if one has; and what was done with the lines, unless that is not asked
+/// for.
 fn tell_done<R: Eprint>(rt: &R, done: &Done) {
+    if done.tally.other_unit {
+        let what = "the header names another unit of the recorder's time than --unit";
+        let _ = eprintln!(rt; "irig_time: {what}");
+    }
+    if let Some(uneven) = done.tally.uneven {
+        let what = "not as many columns as the header";
+        let (number, width, header) = (uneven.number, uneven.width, uneven.header);
+        let first = "the first such line";
+        let _ = eprintln!(rt;
+            "irig_time: line {number}: {what}, {width} and not {header}; {first}"
+        );
+    }
     if !done.quiet {
         let _ = eprintln!(rt; "irig_time: {done}");
     }

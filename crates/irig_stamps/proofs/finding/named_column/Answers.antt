@@ -1,4 +1,4 @@
-use Rattle.std.proofs.Common.{◌≡◌, ◌+◌, sym, subst, arith}
+use Rattle.std.proofs.Common.{◌+◌, sym, subst, arith}
 use Rattle.std.specs.Prelude.{Err}
 use Rattle.irig_stamps.specs.{Named.IsPlace, Named.has_name, declared.fault.RunFault.RunFault}
 use Rattle.irig_stamps.proofs.Places.{later-column, named-at, two-of-more}

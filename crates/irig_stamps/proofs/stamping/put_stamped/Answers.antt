@@ -1,7 +1,8 @@
-use Rattle.std.proofs.Common.{rules, ◌≡◌, ◌++◌, ◌∷◌, [], ℕ, Bool, false, Option, Some, None, length, drop, refl, ap, ◌∙◌, append_assoc}
+use Rattle.std.proofs.Common.{rules, ◌≡◌, ◌++◌, ◌∷◌, [], ℕ, Bool, false, Option, Some, None, length, drop, refl, ap, ◌∙◌, append_assoc, arith}
 use Rattle.std.proofs.Math.Seq.{drop-append_seam}
 use Rattle.std.specs.Prelude.{is_some, option_map, unwrap_or}
-use Rattle.irig_stamps.specs.Looks.{begins, moment_of}
+use Rattle.irig_track.specs.Looks.{counted}
+use Rattle.irig_stamps.specs.Looks.{begins}
 use Rattle.irig_stamps.specs.{Numbers.capped, Numbers.number_in, Stamps.picos_in, StampTexts.stamp_text}
 use Rattle.irig_stamps.specs.{declared.look.Look.Look, declared.picos.Picos.Picos}
 use Rattle.irig_stamps.proofs.Known.{rest_whole}
@@ -12,11 +13,20 @@ some-capped : (v : Option Picos) → is_some (option_map capped v) ≡ is_some v
 some-capped None = refl
 some-capped (Some v) = refl
 
-abbrev look : Bool → Bool → Option ℕ → Look
-look n t m = record { header = false; numbered = n; timed = t; moment = m }
+abbrev look : ℕ → Option ℕ → Bool → Bool → Option ℕ → Look
+look k w n t m = record {
+  number = k;
+  width = w;
+  header = false;
+  other_unit = false;
+  numbered = n;
+  timed = t;
+  moment = m;
+}
 
-same-look : (n n' t t' : Bool) (m m' : Option ℕ) → n ≡ n' → t ≡ t' → m ≡ m' → look n t m ≡ look n' t' m'
-same-look n n' t t' m m' p q r = λ i. look (p i) (q i) (r i)
+same-look : (k k' : ℕ) (w w' : Option ℕ) (n n' t t' : Bool) (m m' : Option ℕ) → k ≡ k' → w ≡ w' → n ≡ n' → t ≡ t' → m ≡ m'
+    → look k w n t m ≡ look k' w' n' t' m'
+same-look k k' w w' n n' t t' m m' o u p q r = λ i. look (o i) (u i) (p i) (q i) (r i)
 
 pub returns-clause-stamped : goal.returns-clause-stamped
 returns-clause-stamped c =
@@ -35,10 +45,10 @@ returns-clause-stamped c =
     let after : drop c.len-start.result all ≡ out =
     ap (λ n. drop n all) start ∙ (ap (λ t. drop (length old) t) (c.deref.ensures.value ∙ text) ∙ drop-append_seam old out) in
     let timed : c.begins.result ≡ begins out = c.begins.ensures ∙ ap begins (rest_whole all c.len-start.result ∙ after) in
+    let line : c.saturating_add.result ≡ counted c.args.count 1 = omega (arith, c.saturating_add.ensures) in
     let numbered : c.is_some.result ≡ is_some v = c.is_some.ensures ∙ (ap (λ o. is_some o) number ∙ some-capped v) in (
       out,
       record { word = word; is_word = c.stamp_of-stamp.ensures.word v number; whole = refl },
       text,
-      same-look c.is_some.result (is_some v) c.begins.result (begins out) c.moment_of.result (moment_of s v) numbered timed
-          (c.moment_of.ensures v number),
+      same-look _ _ _ _ _ _ _ _ _ _ line c.width.ensures numbered timed (c.moment_of.ensures v number),
     )
