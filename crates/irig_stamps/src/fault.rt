@@ -12,7 +12,7 @@ pub enum RunFault {
     #[error("too many reads")]
     TooManyReads,
     /// What comes out could not be written.
-    #[error("output failed")]
+    #[error("standard output: output failed")]
     PrintFailed(PrintFault),
     /// The line with this number, from 1, has more than 1 MiB.
     #[error("line {0}: too long")]

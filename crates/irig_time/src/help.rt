@@ -16,7 +16,7 @@ pub fn program<'a>() -> Program<'a>
         help: help_text(),
         // The status if its output fails.
         status: 4,
-        fault: "output failed",
+        fault: "standard output: output failed",
     }
 }
 

@@ -17,7 +17,9 @@ ghost use Rattle.irig_time.specs.{Statuses.broken_status};
 use crate::done::Done;
 use crate::ending::Ending;
 use crate::help::program;
+use irig_files::TrackFault;
 use irig_stamps::{PrintFault, RunFault, Tally};
+use irig_vcd::VcdFault;
 use std::io::Write;
 use std::process::ExitCode;
 
@@ -33,12 +35,34 @@ pub fn report<R: Eprint, H: Write>(rt: &R, ending: &Ending<'_>, help: &mut H) ->
     let program = program();
     match ending {
         Ending::Usage(fault) => program.explain(rt, fault, help),
-        Ending::Unread(path, fault) => program.tell_of(rt, 3, path, fault),
+        Ending::Unread(path, fault) => tell_unread(rt, path, fault),
         Ending::Aligned(done) => tell_aligned(rt, done),
         Ending::Listed => ExitCode::SUCCESS,
         Ending::Timeless(path, done) => tell_timeless(rt, path, done),
         Ending::Doubted(path, count, done) => tell_doubted(rt, path, *count, done),
         Ending::Broken(fault) => tell_broken(rt, fault),
+    }
+}
+
+/// Says why the track at this path was not read, and returns the status, 3.
+fn tell_unread<R: Eprint>(rt: &R, path: &str, fault: &TrackFault) -> ExitCode
+    ensures { exit_status result ≡ 3 }
+{
+    let next = what_next(fault);
+    let _ = eprintln!(rt; "irig_time: {path}: {fault}{next}");
+    ExitCode::from(3)
+}
+
+/// What a user can do next about a fault, as the end of its line; nothing, if the fault says it.
+fn what_next<'a>(fault: &TrackFault) -> &'a str {
+    match fault {
+        TrackFault::Dump(
+            VcdFault::NoSuchWire
+            | VcdFault::ManyWires
+            | VcdFault::NoEndDefinitions
+            | VcdFault::BadToken(_),
+        ) => "; irig_what FILE says more",
+        _ => "",
     }
 }
 
