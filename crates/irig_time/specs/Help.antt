@@ -1,5 +1,7 @@
--- What is printed if the words ask for help. This project's own.
-use Rattle.std.specs.Prelude.{ℕ, List, ◌++◌, codes}
+-- What is printed if the words ask for help, or for the version. This project's own.
+use Rattle.std.specs.Prelude.{ℕ, Bool, false, List, [], ◌∷◌, ◌++◌, codes}
+use Rattle.std.specs.Str.{bytes_eq}
+use Rattle.clap.specs.Words.{Text}
 
 abbrev pub help_text : List ℕ
 help_text = codes "Usage: irig_time [OPTIONS] <TRACK>\n\nArguments:\n"
@@ -23,4 +25,17 @@ help_text = codes "Usage: irig_time [OPTIONS] <TRACK>\n\nArguments:\n"
     ++ codes "      --why                  a word in place of - says why a line has no time\n"
     ++ codes "      --table                print a table of the frames; no lines are read\n"
     ++ codes "      --quiet                no line at the end says what was done\n"
+    ++ codes "      --version              says which tool prints the version\n"
     ++ codes "  -h, --help                 Print help\n"
+
+-- what is printed if the words ask for the version
+abbrev pub version_text : List ℕ
+version_text = codes "irig_time has the version of the tools that were installed with it: "
+    ++ codes "irig_align --version\n"
+
+-- the words ask for the version: after the program's name there is just this one
+abbrev pub asks_version : List Text → Bool
+asks_version [] = false
+asks_version (name ∷ []) = false
+asks_version (name ∷ word ∷ []) = bytes_eq word (codes "--version")
+asks_version (name ∷ word ∷ other ∷ words) = false

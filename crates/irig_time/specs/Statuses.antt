@@ -1,24 +1,27 @@
 -- The statuses of the program as a process. This project's own.
-use Rattle.std.specs.Prelude.{ℕ, List, Option}
+use Rattle.std.specs.Prelude.{◌≡◌, ℕ, Bool, true, false, List, Option}
 use Rattle.clap.specs.Words.{Text}
 use Rattle.irig_files.specs.Tracks.{Unreadable}
-use Rattle.irig_words.specs.Telling.{EndsWith, Explains}
+use Rattle.irig_words.specs.Telling.{EndsWith, Explains, Helps}
 use Rattle.irig_time.specs.declared.ending.Ending.TheVariants.{Usage, Unread, Aligned}
 use Rattle.irig_time.specs.declared.ending.Ending.TheVariants.{Listed, Timeless, Doubted, Broken}
 use Rattle.irig_stamps.specs.declared.fault.RunFault.{RunFault}
 use Rattle.irig_stamps.specs.declared.fault.RunFault.TheVariants.{PrintFailed}
 use Rattle.irig_stamps.specs.declared.fault.PrintFault.TheVariants.{Closed}
-use Rattle.irig_time.specs.{Done.lines_status, Ending.EndsBy, Ending.Held, Help.help_text, declared.ending.Ending.Ending}
+use Rattle.irig_time.specs.{Done.lines_status, Ending.EndsBy, Ending.Held}
+use Rattle.irig_time.specs.Help.{asks_version, help_text, version_text}
+use Rattle.irig_time.specs.{declared.ending.Ending.Ending}
 
 -- the status of a run that was broken off: 141 if nobody reads the output any more
 abbrev pub broken_status : RunFault → ℕ
 broken_status (PrintFailed Closed) = 141
 broken_status _ = 4
 
--- the status for how the program ended, and what is printed on the output of help: 0 if each line
--- has a number or the table was printed, 1 if some lines have none, no frame has a time or some
--- frames are not believed, 2 for another command line, 3 if the track was not read, that of
--- `broken_status` if the run was broken off; help ends with 0, or with 4 if it was not printed
+-- the status for how the program ended, and what is printed on the output of help: that of
+-- `lines_status` if all lines were printed and nothing is wrong with the track, 0 if the table was,
+-- 1 if no frame has a time or some frames are not believed, 2 for another command line, 3 if the
+-- track was not read, that of `broken_status` if the run was broken off; help ends with 0, or with
+-- 4 if it was not printed
 abbrev pub Reports : Ending → Option (List ℕ) → Option (List ℕ) → ℕ → Type 0
 Reports (Aligned it) old new status = EndsWith (lines_status it.tally) old new status
 Reports Listed old new status = EndsWith 0 old new status
@@ -30,8 +33,20 @@ Reports (Broken fault) old new status = EndsWith (broken_status fault) old new s
 
 -- what the words ask for was done; of how that ended is the status of the process, and what came to
 -- the output of help
-pub record Serves (words : List Text) (held : Held) (unread : Unreadable)
+pub record Runs (words : List Text) (held : Held) (unread : Unreadable)
     (lines left from to help helped : Option (List ℕ)) (status : ℕ) : Type 0 where
   pub ending : Ending
   pub obeyed : EndsBy words held unread lines left from to ending
   pub told : Reports ending help helped status
+
+-- the version was printed, and nothing was read; or what else the words ask for was done
+abbrev pub ServesBy : Bool → List Text → Held → Unreadable → Option (List ℕ) → Option (List ℕ)
+    → Option (List ℕ) → Option (List ℕ) → Option (List ℕ) → Option (List ℕ) → ℕ → Type 0
+ServesBy true words held unread lines left from to help helped status =
+    (left ≡ lines) × ((to ≡ from) × Helps version_text 4 help helped status)
+ServesBy false words held unread lines left from to help helped status =
+    Runs words held unread lines left from to help helped status
+
+abbrev pub Serves : List Text → Held → Unreadable → Option (List ℕ) → Option (List ℕ)
+    → Option (List ℕ) → Option (List ℕ) → Option (List ℕ) → Option (List ℕ) → ℕ → Type 0
+Serves words = ServesBy (asks_version words) words

@@ -1,7 +1,7 @@
 //! What the program says of itself, its help first.
 
 ghost use Rattle.std.specs.Prelude.{◌≡◌};
-ghost use Rattle.irig_time.specs.Help.{help_text};
+ghost use Rattle.irig_time.specs.Help.{help_text, version_text};
 
 use irig_words::Program;
 
@@ -46,6 +46,14 @@ fn help_text<'a>() -> &'a str
      another or not\n      \
      --why                  a word in place of - says why a line has no time\n      \
      --table                print a table of the frames; no lines are read\n      \
-     --quiet                no line at the end says what was done\n  \
+     --quiet                no line at the end says what was done\n      \
+     --version              says which tool prints the version\n  \
      -h, --help                 Print help\n"
+}
+
+/// What is printed if the words ask for the version.
+pub fn version_text<'a>() -> &'a str
+    ensures { result.now ≡ version_text }
+{
+    "irig_time has the version of the tools that were installed with it: irig_align --version\n"
 }

@@ -24,19 +24,20 @@ mod statuses;
 mod units;
 mod values;
 
-ghost use Rattle.std.specs.Prelude.{map, string_bytes};
+ghost use Rattle.std.specs.Prelude.{◌≡◌, map, string_bytes};
 ghost use Rattle.std.specs.Process.{exit_status};
-ghost use Rattle.irig_time.specs.Statuses.{Serves};
+ghost use Rattle.irig_time.specs.{Help.asks_version, Statuses.Serves};
 
 use command_line::command;
 use file_run::align_words;
 use help::program;
 use irig_files::{FileSystem, Files, system_files};
-use statuses::report;
+use statuses::{print_version, report};
 use std::io::{Read, Write};
 use std::process::ExitCode;
 use std::rt::Runtime;
 use std::{env, io};
+use values::is_same;
 
 // Gets the files of the system and the words of the command line, and aligns the lines on the input
 // with the track as `start` does, which gives the status. `system_files` of irig_files takes the
@@ -79,13 +80,26 @@ fn start<P: Eprint + AllocGlobal, C: FileSystem, R: Read, W: Write, H: Write>(
     out: &mut W,
     help: &mut H,
 ) -> ExitCode
-    // The words were obeyed. The output of help has the help if it was asked for, and else nothing:
-    // `rt` prints on the standard error alone, and lines go to `out`.
+    // The words were obeyed. The output of help has the help or the version, if that was asked for,
+    // and else nothing: `rt` prints on the standard error alone, and lines go to `out`.
     ensures { Serves (map string_bytes words.now) (C.held disk.now.system)
         (C.unread disk.now.system) (R.remaining lines.old) (R.remaining lines.new)
         (W.contents out.old) (W.contents out.new) (H.contents help.old) (H.contents help.new)
         (exit_status result) }
 {
+    if asks_version(words) {
+        return print_version(rt, help);
+    }
     let ending = align_words(rt.alloc(), words, disk, lines, out);
     report(rt, &ending, help)
+}
+
+/// Whether the words ask for the version: after the program's name there is just that word.
+fn asks_version(words: &[String]) -> bool
+    ensures { result ≡ asks_version (map string_bytes words.now) }
+{
+    match words {
+        [_, word] => is_same(word.as_bytes(), b"--version"),
+        _ => false,
+    }
 }

@@ -11,13 +11,16 @@
 
 ghost use Rattle.std.specs.Prelude.{◌≡◌};
 ghost use Rattle.std.specs.Process.{exit_status};
+ghost use Rattle.irig_words.specs.Telling.{Helps};
+ghost use Rattle.irig_time.specs.Help.{version_text};
 ghost use Rattle.irig_time.specs.{Done.is_whole, Done.lines_status, Statuses.Reports};
 ghost use Rattle.irig_time.specs.{Statuses.broken_status};
 
 use crate::done::Done;
 use crate::ending::Ending;
-use crate::help::program;
+use crate::help::{program, version_text};
 use irig_files::TrackFault;
+use irig_print::put_all;
 use irig_stamps::{PrintFault, RunFault, Tally};
 use irig_vcd::VcdFault;
 use std::io::Write;
@@ -41,6 +44,18 @@ pub fn report<R: Eprint, H: Write>(rt: &R, ending: &Ending<'_>, help: &mut H) ->
         Ending::Timeless(path, done) => tell_timeless(rt, path, done),
         Ending::Doubted(path, count, done) => tell_doubted(rt, path, *count, done),
         Ending::Broken(fault) => tell_broken(rt, fault),
+    }
+}
+
+/// Prints the version on `help`, the program's output. The exit status is 0 if all of it was
+/// printed, and else that of a failed output, 4.
+pub fn print_version<R: Eprint, H: Write>(rt: &R, help: &mut H) -> ExitCode
+    ensures { Helps version_text 4 (H.contents help.old) (H.contents help.new)
+        (exit_status result) }
+{
+    match put_all(help, version_text().as_bytes()) {
+        Ok(()) => ExitCode::SUCCESS,
+        Err(_) => program().tell(rt, 4, &program().fault),
     }
 }
 
