@@ -1,9 +1,18 @@
 -- A table of nodes as it grows.
-use Rattle.std.proofs.Common.{◌≡◌, ◌*◌, ◌/◌, ◌≤◌, ◌⊎◌, ◌++◌, ℕ, zero, suc, List, [], ◌∷◌, length, MatchOption, slice_get, Option, Some, None, sym, subst, inl, inr, arith, refl}
-use Rattle.std.proofs.lemmas.Option.{slice_get_within}
-use Rattle.irig_explain.specs.declared.{rises.Rises.Rises, nodes.Node.Node}
+use Rattle.std.proofs.Common.{◌≡◌, ◌+◌, ◌-◌, ◌*◌, ◌^◌, ◌<◌, ◌≤◌, ◌⊎◌, ◌++◌, ◌∙◌, ℕ, zero, suc, Bool, true, false, List, [], ◌∷◌, length, get_or, MatchOption, slice_get, Option, Some, None, ap, sym, subst, inl, inr, arith, refl, leb, length-append, below_more}
+use Rattle.std.specs.List.{All, Contains, filter}
+use Rattle.std.specs.List.Sorted.{IsNonDecreasingBy}
+use Rattle.std.proofs.Math.Nat.{mul-le-mul_left}
+use Rattle.std.proofs.lemmas.Bool.{cases_lt, le-leb}
+use Rattle.std.proofs.lemmas.List.{get_or_append_left, get_or-append_right}
+use Rattle.std.proofs.lemmas.List.Elements.{All-append, All-contains, All-filter, All-push, All-weaker, Contains-append_cases, Contains-append_left, Contains-append_right, Contains-push}
+use Rattle.irig_explain.specs.declared.{claim.Kind.Kind, rises.Rises.Rises, nodes.Node.Node, ways.Way.Way}
+use Rattle.irig_explain.specs.declared.claim.Kind.TheVariants.{Jump}
 use Rattle.irig_explain.specs.Explanation.{Price}
-use Rattle.irig_explain.specs.Nodes.{CameFrom, IsNode, AreNodes, AreOfRises}
+use Rattle.irig_explain.specs.Nodes.{AreNodes, ComesFrom, IsCost, IsKnown, IsLeast, IsLow, IsNode, Within, going}
+use Rattle.irig_explain.specs.Rows.{Has, HasCost, IsLeastOf, IsOf, IsRow}
+use Rattle.irig_explain.proofs.Members.{contains_kept, contains_whole}
+use Rattle.irig_explain.proofs.LeastWays.{small_cost}
 
 -- what was there stays there
 pub stays : (xs ys : List Node) (u : ℕ) (m : Node) → slice_get xs u ≡ Some m → slice_get (xs ++ ys) u ≡ Some m
@@ -11,51 +20,224 @@ stays [] ys u m e = absurd (cc)
 stays (x ∷ xs) ys zero m e = e
 stays (x ∷ xs) ys (suc u) m e = stays xs ys u m e
 
--- what is there was there, or is the new one
-pub was_or_new : {X : Type 0} (xs : List X) (x : X) (v : ℕ) (m : X) → slice_get (xs ++ x ∷ []) v ≡ Some m
-    → (slice_get xs v ≡ Some m) ⊎ ((v ≡ length xs) × (x ≡ m))
-was_or_new [] x zero m e = inr (refl, cc)
-was_or_new [] x (suc v) m e = absurd (cc)
-was_or_new (y ∷ ys) x zero m e = inl e
-was_or_new (y ∷ ys) x (suc v) m e =
-    elim (was_or_new ys x v m e) [ inl h ↦ inl h | inr h ↦ let same : v ≡ length ys = h.0 in inr (omega arith, h.1) ]
+-- all are of rises from one on
+abbrev From : ℕ → List Node → Type 0
+From r xs = (m : Node) → Contains xs m → r ≤ m.rise
 
--- one more rise has a node
-pub rises_more : (bests : List ℕ) (w : ℕ) → AreOfRises bests → w / 100 ≡ length bests → AreOfRises (bests ++ w ∷ [])
-rises_more bests w are new = λ r v at.
-    elim (was_or_new bests w r v at) [
-      | inl was ↦ are r v was
-      | inr is ↦ let here = is.0 in let same = is.1 in omega (arith, new, here, same)
-    ]
-
--- ways to a node come from those before
-came_still : (price : Price) (rises : Rises) (nodes : List Node) (x : Node) (v : ℕ) (n : Node) (from : Option ℕ)
-    → MatchOption from (n.cost ≡ rises.skip * (v / 100)) (λ u. CameFrom price rises nodes v n u)
-    → MatchOption from (n.cost ≡ rises.skip * (v / 100)) (λ u. CameFrom price rises (nodes ++ x ∷ []) v n u)
-came_still price rises nodes x v n None h = h
-came_still price rises nodes x v n (Some u) h = record {
-  before = h.before;
-  at = stays nodes (x ∷ []) u h.before h.at;
-  within = h.within;
-  cost = h.cost;
-}
-
--- a node is one still when another is added after it
-pub node_still : (price : Price) (rises : Rises) (nodes : List Node) (x : Node) (v : ℕ) (n : Node) → v ≤ length nodes
-    → IsNode price rises nodes v n → IsNode price rises (nodes ++ x ∷ []) v n
-node_still price rises nodes x v n le h = record {
+-- no step leads from them to a claim before, so its ways stay the same
+low_still : (price : Price) (rises : Rises) (nodes more : List Node) (r q f low : ℕ) → From r more → q ≤ r
+    → IsLow price rises nodes q f low → IsLow price rises (nodes ++ more) q f low
+low_still price rises nodes more r q f low from le h = record {
   first = h.first;
-  least = λ u m k at w.
-      elim (was_or_new nodes x u m at) [ inl was ↦ h.least u m k was w | inr new ↦ absurd (let e = new.0 in let l = w.later in omega arith) ];
-  backed = came_still price rises nodes x v n n.from h.backed;
+  steps = λ m k there w.
+      elim (Contains-append_cases nodes more m there) [
+        | inl was ↦ h.steps m k was w
+        | inr new ↦ (let far = from m new in let later = w.later in absurd (omega arith))
+      ];
 }
 
--- one more node
-pub nodes_more : (price : Price) (rises : Rises) (nodes : List Node) (x : Node) → AreNodes price rises nodes
-    → IsNode price rises nodes (length nodes) x → AreNodes price rises (nodes ++ x ∷ [])
-nodes_more price rises nodes x all new = λ v n at.
-    elim (was_or_new nodes x v n at) [
-      | inl was ↦ let lt = slice_get_within nodes v n was in node_still price rises nodes x v n (omega arith) (all v n was)
-      | inr is ↦ subst (λ (y : Node). IsNode price rises (nodes ++ x ∷ []) v y) is.1
-          (subst (λ w. IsNode price rises (nodes ++ x ∷ []) w x) (sym is.0) (node_still price rises nodes x (length nodes) x (omega arith) new))
+came_still : (price : Price) (rises : Rises) (nodes more : List Node) (q f : ℕ) (w : Way) (from : Option ℕ)
+    → MatchOption from (w.cost ≡ rises.skip * q) (λ u. ComesFrom price rises nodes q f w u)
+    → MatchOption from (w.cost ≡ rises.skip * q) (λ u. ComesFrom price rises (nodes ++ more) q f w u)
+came_still price rises nodes more q f w None h = h
+came_still price rises nodes more q f w (Some u) h = record {
+  before = h.before;
+  at = stays nodes more u h.before h.at;
+  within = h.within;
+  exact = h.exact;
+}
+
+cost_still : (price : Price) (rises : Rises) (nodes more : List Node) (r q f cost : ℕ) → From r more → q ≤ r
+    → IsCost price rises nodes q f cost → IsCost price rises (nodes ++ more) q f cost
+cost_still price rises nodes more r q f cost from le h = record {
+  way = h.way;
+  is = record {
+    low = low_still price rises nodes more r q f h.way.cost from le h.is.low;
+    backed = came_still price rises nodes more q f h.way h.way.from h.is.backed;
+  };
+  exact = h.exact;
+}
+
+-- nodes of a rise before stand for what they did
+known_still : (price : Price) (rises : Rises) (nodes more : List Node) (r q f : ℕ) → From r more → q ≤ r
+    → IsKnown price rises nodes q f → IsKnown price rises (nodes ++ more) q f
+known_still price rises nodes more r q f from le h = record {
+  node = h.node;
+  there = Contains-append_left nodes more h.node h.there;
+  beside = h.beside;
+  least = h.least;
+  costs = cost_still price rises nodes more r q f h.least from le h.costs;
+  cheap = h.cheap;
+  steps = h.steps;
+}
+
+-- a jump costs little more than another step to the same claim
+abbrev pub JumpsTo : Price → ℕ → Type 0
+JumpsTo price most = (r e d q f : ℕ) (k : Kind) → price r e q f Jump ≤ price r d q f k + most
+
+-- a limit lies above the least cost, and by what a jump costs more if a cost exceeds it
+pub record IsLimit (most least limit : ℕ) : Type 0 where
+  pub above : least ≤ limit
+  pub far : (cost : ℕ) → cost < 2 ^ 63 → limit < cost → least + most < cost
+
+-- the nodes of a row that cost no more than a limit
+abbrev pub kept : ℕ → List Node → List Node
+kept limit row = filter (λ n. leb n.cost limit) row
+
+-- the nodes of a row are of its rise, and so are those that are kept
+row_from : (price : Price) (rises : Rises) (nodes row : List Node) (r limit : ℕ) → IsRow price rises nodes r rises.states row → From r (kept limit row)
+row_from price rises nodes row r limit is = λ m there.
+    let of = All-contains (IsOf price rises nodes r rises.states) row m is.each (contains_whole (λ n. leb n.cost limit) row m there) in
+    let e = of.rise in omega arith
+
+-- a claim whose node is left out: the cheapest one of the row stands for it
+left_out : (price : Price) (rises : Rises) (nodes row : List Node) (r most least limit e : ℕ) (n : Node)
+    → IsRow price rises nodes r rises.states row → JumpsTo price most → IsLeastOf row least → IsLimit most least limit
+    → Contains row n → IsCost price rises nodes r e n.cost → n.cost < 2 ^ 63 → limit < n.cost
+    → IsKnown price rises (nodes ++ kept limit row) r e
+left_out price rises nodes row r most least limit e n is jumps low lim there costs small dear =
+    let far = lim.far n.cost small dear in
+    let le = All-contains (λ m. least ≤ m.cost) row n low.low there in
+    elim low.there [
+      | inl none ↦ absurd (omega (arith, none, le, small))
+      | inr best ↦
+          let m = best.node in
+          let of = All-contains (IsOf price rises nodes r rises.states) row m is.each best.there in
+          let cheap : m.cost ≤ limit = omega (arith, best.exact, lim.above) in
+          record {
+            node = m;
+            there = Contains-append_right nodes (kept limit row) m (contains_kept (λ n. leb n.cost limit) row m best.there (le-leb m.cost limit cheap));
+            beside = of.rise;
+            least = n.cost;
+            costs = cost_still price rises nodes (kept limit row) r r e n.cost (row_from price rises nodes row r limit is) (omega arith) costs;
+            cheap = omega (arith, best.exact, le);
+            steps = λ q f k. (
+              Jump,
+              subst (λ x. m.cost + price x m.element q f Jump ≤ n.cost + price r e q f k) (sym of.rise)
+                  (omega (arith, jumps r m.element e q f k, far, best.exact)),
+            );
+          }
     ]
+
+-- one whose node is kept
+kept_itself : (price : Price) (rises : Rises) (nodes row : List Node) (r limit e : ℕ) (n : Node)
+    → IsRow price rises nodes r rises.states row → Contains row n → n.rise ≡ r → n.element ≡ e
+    → IsCost price rises nodes r e n.cost → n.cost ≤ limit → IsKnown price rises (nodes ++ kept limit row) r e
+kept_itself price rises nodes row r limit e n is there rise element costs cheap = record {
+  node = n;
+  there = Contains-append_right nodes (kept limit row) n (contains_kept (λ n. leb n.cost limit) row n there (le-leb n.cost limit cheap));
+  beside = rise;
+  least = n.cost;
+  costs = cost_still price rises nodes (kept limit row) r r e n.cost (row_from price rises nodes row r limit is) (omega arith) costs;
+  cheap = omega arith;
+  steps = λ q f k. (
+    k,
+    subst (λ x. n.cost + price x n.element q f k ≤ n.cost + price r e q f k) (sym rise)
+        (subst (λ x. n.cost + price r x q f k ≤ n.cost + price r e q f k) (sym element) (omega arith)),
+  );
+}
+
+known_new : (price : Price) (rises : Rises) (nodes row : List Node) (r most least limit e : ℕ)
+    → IsRow price rises nodes r rises.states row → JumpsTo price most → IsLeastOf row least → IsLimit most least limit
+    → r < 2 ^ 31 → rises.skip < 2 ^ 32 → e < rises.states → IsKnown price rises (nodes ++ kept limit row) r e
+known_new price rises nodes row r most least limit e is jumps low lim few fits lt =
+    let has = is.all e lt in let n = has.node in
+    let of = All-contains (IsOf price rises nodes r rises.states) row n is.each has.there in
+    let first : n.cost ≤ rises.skip * r = omega (arith, of.costs.is.low.first, of.costs.exact) in
+    let costs = subst (λ x. IsCost price rises nodes r x n.cost) has.element of.costs in
+    elim (cases_lt limit n.cost) [
+      | inl dear ↦ left_out price rises nodes row r most least limit e n is jumps low lim has.there costs
+          (small_cost rises.skip r n.cost fits few first) dear
+      | inr cheap ↦ kept_itself price rises nodes row r limit e n is has.there of.rise has.element costs cheap
+    ]
+
+-- the nodes of later rises come later
+sorted_more : (xs ys : List Node) (r : ℕ) → IsNonDecreasingBy (λ (n : Node). n.rise) xs → All (λ (n : Node). n.rise < r) xs
+    → All (λ (n : Node). n.rise ≡ r) ys → IsNonDecreasingBy (λ (n : Node). n.rise) (xs ++ ys)
+sorted_more xs ys r sorted below at = λ i j d le lt.
+    elim (cases_lt j (length xs)) [
+      | inl left ↦
+          let lti : i < length xs = omega arith in
+          rw (get_or_append_left xs ys d i lti, get_or_append_left xs ys d j left) (sorted i j d le left)
+      | inr right ↦
+          let ltj : j - length xs < length ys = let l = length-append xs ys in omega arith in
+          let last = at (j - length xs) d ltj in
+          elim (cases_lt i (length xs)) [
+            | inl left ↦
+                let low = below i d left in
+                rw (get_or_append_left xs ys d i left, get_or-append_right xs ys (length xs) j d refl right) (omega (arith, low, last))
+            | inr far ↦
+                let lti : i - length xs < length ys = let l = length-append xs ys in omega arith in
+                let first = at (i - length xs) d lti in
+                rw (get_or-append_right xs ys (length xs) i d refl far, get_or-append_right xs ys (length xs) j d refl right) (omega (arith, first, last))
+          ]
+    ]
+
+-- the table with one more rise
+pub nodes_more : (price : Price) (rises : Rises) (nodes row : List Node) (r most least limit : ℕ) → AreNodes price rises r nodes
+    → IsRow price rises nodes r rises.states row → JumpsTo price most → IsLeastOf row least → IsLimit most least limit
+    → r < 2 ^ 31 → rises.skip < 2 ^ 32 → AreNodes price rises (r + 1) (nodes ++ kept limit row)
+nodes_more price rises nodes row r most least limit are is jumps low lim few fits =
+    let more = kept limit row in let new = nodes ++ more in
+    let from = row_from price rises nodes row r limit is in
+    let of = All-filter (λ n. leb n.cost limit) (IsOf price rises nodes r rises.states) row is.each in record {
+      known = λ q e lt small.
+          elim (cases_lt q r) [
+            | inl before ↦ known_still price rises nodes more r q e from (omega arith) (are.known q e before small)
+            | inr here ↦ subst (λ x. IsKnown price rises new x e) (let same : r ≡ q = omega arith in same)
+                (known_new price rises nodes row r most least limit e is jumps low lim few fits small)
+          ];
+      each = All-append (IsNode price rises (r + 1) new) nodes more
+          (All-weaker (IsNode price rises r nodes) (IsNode price rises (r + 1) new) (λ n h. let lt = h.rise in record {
+            rise = omega arith;
+            element = h.element;
+            costs = cost_still price rises nodes more r n.rise n.element n.cost from (omega arith) h.costs;
+          }) nodes are.each)
+          (All-weaker (IsOf price rises nodes r rises.states) (IsNode price rises (r + 1) new) (λ n h. let same = h.rise in record {
+            rise = omega arith;
+            element = h.element;
+            costs = subst (λ x. IsCost price rises new x n.element n.cost) (sym h.rise)
+                (cost_still price rises nodes more r r n.element n.cost from (omega arith) h.costs);
+          }) more of);
+      sorted = sorted_more nodes more r are.sorted
+          (All-weaker (IsNode price rises r nodes) (λ n. n.rise < r) (λ n h. h.rise) nodes are.each)
+          (All-weaker (IsOf price rises nodes r rises.states) (λ n. n.rise ≡ r) (λ n h. h.rise) more of);
+    }
+
+-- no cost in a table is too large
+pub small_nodes : (price : Price) (rises : Rises) (done : ℕ) (nodes : List Node) → AreNodes price rises done nodes → done ≤ 2 ^ 31
+    → rises.skip < 2 ^ 32 → All (λ n. n.cost < 2 ^ 63) nodes
+small_nodes price rises done nodes are few fits =
+    All-weaker (IsNode price rises done nodes) (λ n. n.cost < 2 ^ 63) (λ n h. let lt = h.rise in
+    small_cost rises.skip n.rise n.cost fits (omega arith) (omega (arith, h.costs.is.low.first, h.costs.exact))) nodes are.each
+
+-- a row with one more node
+pub row_more : (price : Price) (rises : Rises) (nodes : List Node) (r i : ℕ) (row : List Node) (w : Way) → IsRow price rises nodes r i row
+    → IsLeast price rises nodes r i w → IsRow price rises nodes r (i + 1) (row ++ record { cost = w.cost; rise = r; element = i } ∷ [])
+row_more price rises nodes r i row w is least =
+    let n : Node = record { cost = w.cost; rise = r; element = i } in
+    let P : ℕ → Type 0 = λ e. Has (row ++ n ∷ []) e in record {
+      each = All-push (IsOf price rises nodes r (i + 1)) row n
+          (All-weaker (IsOf price rises nodes r i) (IsOf price rises nodes r (i + 1)) (λ m h. let lt = h.element in record {
+            rise = h.rise;
+            element = omega arith;
+            costs = h.costs;
+          }) row is.each)
+          (record { rise = refl; element = omega arith; costs = record { way = w; is = least; exact = refl } });
+      all = λ e lt. below_more P i
+          (λ e lt. let has = is.all e lt in record {
+            node = has.node;
+            there = Contains-append_left row (n ∷ []) has.node has.there;
+            element = has.element;
+          })
+          (record { node = n; there = Contains-push row n; element = refl })
+          e lt;
+    }
+
+-- nor any least one, if there are only half as many rises
+pub small_least : (price : Price) (rises : Rises) (nodes : List Node) (q f : ℕ) (w : Way) → IsLeast price rises nodes q f w → q < rises.count
+    → rises.count ≤ 2 ^ 30 → rises.skip < 2 ^ 32 → w.cost < 2 ^ 62
+small_least price rises nodes q f w is lt few fits =
+    let le : q ≤ 2 ^ 30 = omega arith in
+    let less : q < 2 ^ 30 = omega arith in
+    omega (arith, is.low.first, mul-le-mul_left rises.skip le)

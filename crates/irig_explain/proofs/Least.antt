@@ -1,62 +1,56 @@
 -- No explanation is cheaper than the cheapest end.
-use Rattle.std.proofs.Common.{◌≡◌, ◌+◌, ◌-◌, ◌*◌, ◌/◌, ◌%◌, ◌<◌, ◌≤◌, ℕ, List, [], ◌∷◌, length, slice_get, Some, ap, sym, subst, arith, get_or, refl}
-use Rattle.std.proofs.lemmas.Option.{slice_get-get_or}
-use Rattle.irig_explain.specs.declared.{claim.Claim.Claim, rises.Rises.Rises, ends.End.End, nodes.Node.Node}
-use Rattle.irig_explain.specs.declared.claim.Kind.TheVariants.{Next}
+use Rattle.std.proofs.Common.{◌≡◌, ◌+◌, ◌-◌, ◌*◌, ◌<◌, ◌≤◌, ℕ, List, [], ◌∷◌, subst, arith}
+use Rattle.irig_explain.specs.declared.{claim.Claim.Claim, claim.Kind.Kind, rises.Rises.Rises, ends.End.End, nodes.Node.Node}
 use Rattle.irig_explain.specs.Ends.{IsEnd}
 use Rattle.irig_explain.specs.Explanation.{Price, IsClaim, AreClaims, IsExplanation, cost, cost_after}
-use Rattle.irig_explain.specs.Nodes.{AreNodes, Within, way}
-
--- the node of a claim
-abbrev pub node_of : Claim → ℕ
-node_of c = c.rise * 100 + c.element
-
-pub rise_of : (c : Claim) → c.element < 100 → node_of c / 100 ≡ c.rise
-rise_of c lt = omega arith
-
-pub element_of : (c : Claim) → c.element < 100 → node_of c % 100 ≡ c.element
-element_of c lt = omega arith
-
--- a step between claims costs what the way between their nodes costs
-pub way_of : (price : Price) (c d : Claim) → c.element < 100 → d.element < 100
-    → way price (node_of c) (node_of d) d.kind ≡ price c.rise c.element d.rise d.element d.kind
-way_of price c d lt lt2 = rw (rise_of c lt, element_of c lt, rise_of d lt2, element_of d lt2) refl
-
--- each claim has a node
-has_node : (rises : Rises) (nodes : List Node) (c : Claim) → length nodes ≡ rises.count * 100 → IsClaim rises c
-    → (n : Node) × (slice_get nodes (node_of c) ≡ Some n)
-has_node rises nodes c all is =
-    let d : Node = record { cost = 0; from = Rattle.std.proofs.Common.None; kind = Next } in
-    let lt : c.rise * 100 + c.element < length nodes = let a = is.0 in let b = is.1 in omega arith in
-    (get_or nodes (node_of c) d, slice_get-get_or nodes (node_of c) d lt)
+use Rattle.irig_explain.specs.Nodes.{AreNodes, IsCost, IsKnown, IsLow, Within, going}
+use Rattle.irig_explain.proofs.ReadBack.{below_cost}
 
 pub first_is : (rises : Rises) (c : Claim) (cs : List Claim) → AreClaims rises c cs → IsClaim rises c
 first_is rises c [] h = h
 first_is rises c (d ∷ ds) h = h.0
 
--- any way on from a node costs as much as the cheapest end
-least_after : (price : Price) (rises : Rises) (nodes : List Node) (e : End) → AreNodes price rises nodes → length nodes ≡ rises.count * 100
-    → IsEnd rises nodes e → (c : Claim) (cs : List Claim) (n : Node) → AreClaims rises c cs → slice_get nodes (node_of c) ≡ Some n
-    → e.cost ≤ n.cost + cost_after price rises c cs
-least_after price rises nodes e are all is c [] n h at =
-    let le : e.cost ≤ n.cost + rises.skip * (rises.count - node_of c / 100 - 1) = is.least (node_of c) n at in
-    subst (λ r. e.cost ≤ n.cost + rises.skip * (rises.count - r - 1)) (rise_of c h.1) le
-least_after price rises nodes e are all is c (d ∷ ds) n h at =
-    let d_is = first_is rises d ds h.2 in
-    let there = has_node rises nodes d all d_is in
-    let rest = least_after price rises nodes e are all is d ds there.0 h.2 there.1 in
-    let c_rise = rise_of c h.0.1 in let d_rise = rise_of d d_is.1 in let later = h.1.0 in let near = h.1.1 in
-    let w : Within rises (node_of c) (node_of d) = record { later = omega arith; near = omega arith } in
-    let step = (are (node_of d) there.0 there.1).least (node_of c) n d.kind at w in
-    let paid = way_of price c d h.0.1 d_is.1 in
-    omega (arith, rest, step, paid)
+-- what was spent up to a claim: the cheapest way to it costs no more
+abbrev pub IsSpent : Price → Rises → List Node → ℕ → ℕ → ℕ → Type 0
+IsSpent price rises nodes q f spent = (low : ℕ) → IsLow price rises nodes q f low → low ≤ spent
 
-pub least_cost : (price : Price) (rises : Rises) (nodes : List Node) (e : End) → AreNodes price rises nodes → length nodes ≡ rises.count * 100
+-- at least what is passed over before the first one
+pub spent_first : (price : Price) (rises : Rises) (nodes : List Node) (q f : ℕ) → IsSpent price rises nodes q f (rises.skip * q)
+spent_first price rises nodes q f low h = h.first
+
+-- a step from a claim, by the node that stands for it
+pub spent_step : (price : Price) (rises : Rises) (nodes : List Node) (r e q f spent : ℕ) (k : Kind) → IsKnown price rises nodes r e
+    → r < q → q ≤ r + rises.window → IsSpent price rises nodes r e spent → IsSpent price rises nodes q f (spent + price r e q f k)
+spent_step price rises nodes r e q f spent k known later near paid low h =
+    let m = known.node in let same = known.beside in
+    let w : Within rises m q = record { later = omega (arith, same); near = omega (arith, same) } in
+    let step = known.steps q f k in
+    let least : known.least ≤ spent = let x = paid known.costs.way.cost known.costs.is.low in omega (arith, x, known.costs.exact) in
+    omega (arith, h.steps m step.0 known.there w, step.1, least)
+
+-- the node that stands for a claim costs no more than what was spent
+pub known_cheap : (price : Price) (rises : Rises) (nodes : List Node) (r e spent : ℕ) (known : IsKnown price rises nodes r e)
+    → IsSpent price rises nodes r e spent → known.node.cost ≤ spent
+known_cheap price rises nodes r e spent known paid =
+    omega (arith, paid known.costs.way.cost known.costs.is.low, known.costs.exact, known.cheap)
+
+-- any way on from a claim costs as much as the cheapest end
+least_after : (price : Price) (rises : Rises) (nodes : List Node) (e : End) → AreNodes price rises rises.count nodes
+    → IsEnd rises nodes e → (c : Claim) (cs : List Claim) (spent : ℕ) → AreClaims rises c cs → IsSpent price rises nodes c.rise c.element spent
+    → e.cost ≤ spent + cost_after price rises c cs
+least_after price rises nodes e are is c [] spent h paid =
+    let known = are.known c.rise c.element h.0 h.1 in
+    let ends = subst (λ r. e.cost ≤ known.node.cost + rises.skip * (rises.count - r - 1)) known.beside (is.least known.node known.there) in
+    omega (arith, ends, known_cheap price rises nodes c.rise c.element spent known paid)
+least_after price rises nodes e are is c (d ∷ ds) spent h paid =
+    let c_is = h.0 in
+    let known = are.known c.rise c.element c_is.0 c_is.1 in
+    let more = spent_step price rises nodes c.rise c.element d.rise d.element spent d.kind known h.1.0 h.1.1 paid in
+    let rest = least_after price rises nodes e are is d ds (spent + price c.rise c.element d.rise d.element d.kind) h.2 more in
+    omega (arith, rest)
+
+pub least_cost : (price : Price) (rises : Rises) (nodes : List Node) (e : End) → AreNodes price rises rises.count nodes
     → IsEnd rises nodes e → (x : List Claim) → IsExplanation rises x → e.cost ≤ cost price rises x
-least_cost price rises nodes e are all is [] h = is.none
-least_cost price rises nodes e are all is (c ∷ cs) h =
-    let c_is = first_is rises c cs h in
-    let there = has_node rises nodes c all c_is in
-    let rest = least_after price rises nodes e are all is c cs there.0 h there.1 in
-    let begins = subst (λ r. there.0.cost ≤ rises.skip * r) (rise_of c c_is.1) (are (node_of c) there.0 there.1).first in
-    omega (arith, rest, begins)
+least_cost price rises nodes e are is [] h = is.none
+least_cost price rises nodes e are is (c ∷ cs) h =
+    least_after price rises nodes e are is c cs (rises.skip * c.rise) h (spent_first price rises nodes c.rise c.element)

@@ -1,8 +1,9 @@
-pub mod Ways
+pub mod Members
+pub mod LeastWays
 pub mod Growing
+pub mod EndsSoFar
 pub mod ReadBack
 pub mod Least
-pub mod EndsSoFar
+pub mod Elsewhere
 pub mod Placed
 pub mod Others
-pub mod Pruned

@@ -1,165 +1,142 @@
 -- An explanation that does not give an interval the place, for each cost that the code takes.
-use Rattle.std.proofs.Common.{◌≡◌, ◌+◌, ◌-◌, ◌*◌, ◌/◌, ◌%◌, ◌<◌, ◌≤◌, ◌∙◌, ℕ, zero, suc, List, [], ◌∷◌, length, get_or, slice_get, MatchOption, Option, Some, None, ap, sym, subst, inl, inr, arith, refl}
-use Rattle.std.proofs.lemmas.{Option.slice_get-get_or, Option.slice_get_within}
-use Rattle.irig_explain.specs.declared.{claim.Claim.Claim, claim.Kind.Kind, rises.Rises.Rises, nodes.Node.Node, asked.Asked.Asked}
-use Rattle.irig_explain.specs.Ends.{claim_of}
+use Rattle.std.proofs.Common.{◌≡◌, ◌+◌, ◌-◌, ◌*◌, ◌<◌, ◌≤◌, ◌∙◌, ℕ, zero, suc, List, [], ◌∷◌, MatchOption, Option, Some, None, ap, sym, subst, inl, inr, arith, refl}
+use Rattle.std.proofs.lemmas.List.Elements.{All-contains}
+use Rattle.irig_explain.specs.declared.{claim.Claim.Claim, claim.Kind.Kind, rises.Rises.Rises, nodes.Node.Node, ways.Way.Way, asked.Asked.Asked}
+use Rattle.irig_explain.specs.declared.claim.Kind.TheVariants.{Next}
 use Rattle.irig_explain.specs.Explanation.{Price, AreClaims, cost_after}
-use Rattle.irig_explain.specs.Nodes.{AreNodes, CameFrom, way}
-use Rattle.irig_explain.specs.{Bounds.CostsWithout, Nodes.cost_at, Sure.GivesAfter, Sure.IsOther, Turned.turned, Turned.turned_node, Ways.OtherWayOver}
-use Rattle.irig_explain.proofs.ReadBack.{no_node, claim_as, any_kind, any_cost}
+use Rattle.irig_explain.specs.Nodes.{AreNodes, ComesFrom, IsCost, IsNode}
+use Rattle.irig_explain.specs.{Bounds.CostsWithout, Sure.GivesAfter, Sure.IsOther, Turned.AreTables, Turned.turned, Ways.OtherWay}
+use Rattle.irig_explain.proofs.Members.{contains_at}
+use Rattle.irig_explain.proofs.ReadBack.{any_kind, any_cost}
+
+-- the claim that a rise is an element, of some kind
+abbrev claim : ℕ → ℕ → Claim
+claim r e = record { rise = r; element = e; kind = Next }
+
+abbrev claim_by : ℕ → ℕ → Kind → Claim
+claim_by r e k = record { rise = r; element = e; kind = k }
 
 -- the kind of the first claim says nothing of places
-any_place : (place : Price) (a : Asked) (v : ℕ) (k : Kind) (cs : List Claim) → GivesAfter place a (claim_as v k) cs → GivesAfter place a (claim_of v) cs
-any_place place a v k [] h = h
-any_place place a v k (c ∷ cs) h = h
+any_place : (place : Price) (a : Asked) (r e : ℕ) (k : Kind) (cs : List Claim) → GivesAfter place a (claim_by r e k) cs → GivesAfter place a (claim r e) cs
+any_place place a r e k [] h = h
+any_place place a r e k (c ∷ cs) h = h
 
--- one claim more in front: a node before the interval
-one_before : (price place : Price) (rises : Rises) (before : List Node) (a : Asked) (v : ℕ) (n : Node) (from : Option ℕ) (cs : List Claim)
-    → MatchOption from (n.cost ≡ rises.skip * (v / 100)) (λ u. CameFrom price rises before v n u)
-    → v < rises.count * 100 → v / 100 ≤ a.interval → AreClaims rises (claim_of v) cs → (GivesAfter place a (claim_of v) cs → ⊥)
-    → ((u : ℕ) (m : Node) (ds : List Claim) → u < v → slice_get before u ≡ Some m → u / 100 ≤ a.interval → AreClaims rises (claim_of u) ds
-    → (GivesAfter place a (claim_of u) ds → ⊥) → IsOther price place rises a (m.cost + cost_after price rises (claim_of u) ds))
-    → IsOther price place rises a (n.cost + cost_after price rises (claim_of v) cs)
-one_before price place rises before a v n None cs b lt early h unlike more = record {
-  claims = claim_as v n.kind ∷ cs;
-  possible = any_kind rises v n.kind cs h;
-  exact = omega (arith, any_cost price rises v n.kind cs);
-  elsewhere = λ p. unlike (any_place place a v n.kind cs p);
+-- one claim more in front: one before the interval
+one_before : (price place : Price) (rises : Rises) (before : List Node) (a : Asked) (r e x : ℕ) (w : Way) (from : Option ℕ) (cs : List Claim)
+    → AreNodes price rises rises.count before → MatchOption from (w.cost ≡ rises.skip * r) (λ u. ComesFrom price rises before r e w u) → w.cost ≡ x
+    → r ≤ a.interval → AreClaims rises (claim r e) cs → (GivesAfter place a (claim r e) cs → ⊥)
+    → ((m : Node) (ds : List Claim) → m.rise < r → IsNode price rises rises.count before m → AreClaims rises (claim m.rise m.element) ds
+    → (GivesAfter place a (claim m.rise m.element) ds → ⊥)
+    → IsOther price place rises a (m.cost + cost_after price rises (claim m.rise m.element) ds))
+    → IsOther price place rises a (x + cost_after price rises (claim r e) cs)
+one_before price place rises before a r e x w None cs are b same early h unlike more = record {
+  claims = claim_by r e w.kind ∷ cs;
+  possible = any_kind rises (claim r e) w.kind cs h;
+  exact = omega (arith, any_cost price rises (claim r e) w.kind cs, b, same);
+  elsewhere = λ p. unlike (any_place place a r e w.kind cs p);
 }
-one_before price place rises before a v n (Some u) cs b lt early h unlike more =
-    let later = b.within.later in let near = b.within.near in
-    let total : b.before.cost + cost_after price rises (claim_of u) (claim_as v n.kind ∷ cs) ≡ n.cost + cost_after price rises (claim_of v) cs
-    = omega (arith, b.cost, any_cost price rises v n.kind cs) in
+one_before price place rises before a r e x w (Some u) cs are b same early h unlike more =
+    let m = b.before in let later = b.within.later in let near = b.within.near in
+    let is = All-contains (IsNode price rises rises.count before) before m are.each (contains_at before u m b.at) in
+    let total : m.cost + cost_after price rises (claim m.rise m.element) (claim_by r e w.kind ∷ cs) ≡ x + cost_after price rises (claim r e) cs
+    = omega (arith, b.exact, same, any_cost price rises (claim r e) w.kind cs) in
     subst (IsOther price place rises a) total
-    (more u b.before (claim_as v n.kind ∷ cs) (omega arith) b.at (omega arith)
-    ((omega arith, omega arith), (later, near), any_kind rises v n.kind cs h)
-    (λ p. elim p [ inl q ↦ let over = q.0.1 in absurd (omega arith) | inr q ↦ unlike (any_place place a v n.kind cs q) ]))
+    (more m (claim_by r e w.kind ∷ cs) later is ((is.rise, is.element), (later, near), any_kind rises (claim r e) w.kind cs h)
+    (λ p. elim p [ inl q ↦ let over = q.0.1 in absurd (omega arith) | inr q ↦ unlike (any_place place a r e w.kind cs q) ]))
 
--- all claims before a node before the interval
-all_before : (price place : Price) (rises : Rises) (before : List Node) (a : Asked) → AreNodes price rises before → length before ≡ rises.count * 100
-    → (fuel v : ℕ) (n : Node) (cs : List Claim) → v < fuel → slice_get before v ≡ Some n → v / 100 ≤ a.interval → AreClaims rises (claim_of v) cs
-    → (GivesAfter place a (claim_of v) cs → ⊥) → IsOther price place rises a (n.cost + cost_after price rises (claim_of v) cs)
-all_before price place rises before a are all zero v n cs lt at early h unlike = absurd (omega arith)
-all_before price place rises before a are all (suc fuel) v n cs lt at early h unlike =
-    let there = slice_get_within before v n at in
-    one_before price place rises before a v n n.from cs (are v n at).backed (omega arith) early h unlike
-    (λ u m ds less at2 early2 h2 unlike2. all_before price place rises before a are all fuel u m ds (omega arith) at2 early2 h2 unlike2)
+-- all claims before one before the interval
+all_before : (price place : Price) (rises : Rises) (before : List Node) (a : Asked) → AreNodes price rises rises.count before
+    → (fuel r e x : ℕ) (cs : List Claim) → r < fuel → IsCost price rises before r e x → r ≤ a.interval → AreClaims rises (claim r e) cs
+    → (GivesAfter place a (claim r e) cs → ⊥) → IsOther price place rises a (x + cost_after price rises (claim r e) cs)
+all_before price place rises before a are zero r e x cs lt costs early h unlike = absurd (omega arith)
+all_before price place rises before a are (suc fuel) r e x cs lt costs early h unlike =
+    one_before price place rises before a r e x costs.way costs.way.from cs are costs.is.backed costs.exact early h unlike
+    (λ m ds less is h2 unlike2. all_before price place rises before a are fuel m.rise m.element m.cost ds (omega arith) is.costs (omega arith) h2 unlike2)
 
--- claims after a node
-record Rest (price place : Price) (rises : Rises) (a : Asked) (v total : ℕ) : Type 0 where
+-- claims after one
+record Rest (price place : Price) (rises : Rises) (a : Asked) (r e total : ℕ) : Type 0 where
   claims : List Claim
-  possible : AreClaims rises (claim_of v) claims
-  exact : cost_after price rises (claim_of v) claims ≡ total
-  late : a.interval < v / 100 → GivesAfter place a (claim_of v) claims → ⊥
-
--- turned twice
-turned_rise : (count v : ℕ) → v < count * 100 → turned_node count v / 100 ≡ count - 1 - v / 100
-turned_rise count v lt = omega arith
-
-turned_element : (count v : ℕ) → v < count * 100 → turned_node count v % 100 ≡ v % 100
-turned_element count v lt = omega arith
-
-turned_twice : (count v : ℕ) → v < count * 100 → turned_node count (turned_node count v) ≡ v
-turned_twice count v lt = let r = turned_rise count v lt in let e = turned_element count v lt in omega arith
-
-turned_less : (count v : ℕ) → v < count * 100 → turned_node count v < count * 100
-turned_less count v lt = omega arith
+  possible : AreClaims rises (claim r e) claims
+  exact : cost_after price rises (claim r e) claims ≡ total
+  late : a.interval < r → GivesAfter place a (claim r e) claims → ⊥
 
 -- one claim more after
-one_after : (price place : Price) (rises : Rises) (after : List Node) (a : Asked) (w : ℕ) (n : Node) (from : Option ℕ)
-    → MatchOption from (n.cost ≡ rises.skip * (w / 100)) (λ u. CameFrom (turned price rises.count) rises after w n u)
-    → length after ≡ rises.count * 100 → w < rises.count * 100
-    → ((u : ℕ) (m : Node) → u < w → slice_get after u ≡ Some m → Rest price place rises a (turned_node rises.count u) m.cost)
-    → Rest price place rises a (turned_node rises.count w) n.cost
-one_after price place rises after a w n None b all lt more =
-    let r = turned_rise rises.count w lt in
-    let same : rises.count - turned_node rises.count w / 100 - 1 ≡ w / 100 = omega arith in
-    record {
+one_after : (price place : Price) (rises : Rises) (after : List Node) (a : Asked) (q e y : ℕ) (w : Way) (from : Option ℕ)
+    → AreNodes (turned price rises.count) rises rises.count after
+    → MatchOption from (w.cost ≡ rises.skip * q) (λ u. ComesFrom (turned price rises.count) rises after q e w u) → w.cost ≡ y
+    → q < rises.count → e < rises.states
+    → ((m : Node) → m.rise < q → IsNode (turned price rises.count) rises rises.count after m
+    → Rest price place rises a (rises.count - 1 - m.rise) m.element m.cost)
+    → Rest price place rises a (rises.count - 1 - q) e y
+one_after price place rises after a q e y w None are b same lt small more =
+    let back : rises.count - (rises.count - 1 - q) - 1 ≡ q = omega arith in record {
       claims = [];
-      possible = (omega arith, omega arith);
-      exact = ap (λ m. rises.skip * m) same ∙ sym b;
+      possible = (omega arith, small);
+      exact = ap (λ n. rises.skip * n) back ∙ (sym b ∙ same);
       late = λ _ p. p;
     }
-one_after price place rises after a w n (Some u) b all lt more =
-    let there = slice_get_within after u b.before b.at in
-    let ltu : u < rises.count * 100 = omega arith in
-    let later = b.within.later in let near = b.within.near in
-    let rest = more u b.before (omega arith) b.at in
-    let rw_ = turned_rise rises.count w lt in let ew = turned_element rises.count w lt in
-    let ru = turned_rise rises.count u ltu in let eu = turned_element rises.count u ltu in
-    let v = turned_node rises.count w in let x = turned_node rises.count u in
-    let paid : price (v / 100) (v % 100) (x / 100) (x % 100) n.kind ≡ way (turned price rises.count) u w n.kind = rw (rw_, ew, ru, eu) refl in
+one_after price place rises after a q e y w (Some u) are b same lt small more =
+    let m = b.before in let later = b.within.later in let near = b.within.near in
+    let is = All-contains (IsNode (turned price rises.count) rises rises.count after) after m are.each (contains_at after u m b.at) in
+    let rest = more m later is in let r = rises.count - 1 - m.rise in let m_low = is.rise in
     record {
-      claims = claim_as x n.kind ∷ rest.claims;
-      possible = ((omega arith, omega arith), (omega arith, omega arith), any_kind rises x n.kind rest.claims rest.possible);
-      exact = omega (arith, paid, b.cost, rest.exact, any_cost price rises x n.kind rest.claims);
+      claims = claim_by r m.element w.kind ∷ rest.claims;
+      possible = ((omega arith, small), (omega arith, omega arith), any_kind rises (claim r m.element) w.kind rest.claims rest.possible);
+      exact = omega (arith, b.exact, same, rest.exact, any_cost price rises (claim r m.element) w.kind rest.claims);
       late = λ late p. elim p [
-        | inl q ↦ let over = q.0.0 in absurd (omega arith)
-        | inr q ↦ rest.late (omega arith) (any_place place a x n.kind rest.claims q)
+        | inl o ↦ let over = o.0.0 in absurd (omega arith)
+        | inr o ↦ rest.late (omega arith) (any_place place a r m.element w.kind rest.claims o)
       ];
     }
 
-all_after : (price place : Price) (rises : Rises) (after : List Node) (a : Asked) → AreNodes (turned price rises.count) rises after
-    → length after ≡ rises.count * 100 → (fuel w : ℕ) (n : Node) → w < fuel → slice_get after w ≡ Some n
-    → Rest price place rises a (turned_node rises.count w) n.cost
-all_after price place rises after a are all zero w n lt at = absurd (omega arith)
-all_after price place rises after a are all (suc fuel) w n lt at =
-    let there = slice_get_within after w n at in
-    one_after price place rises after a w n n.from (are w n at).backed all (omega arith)
-    (λ u m less at2. all_after price place rises after a are all fuel u m (omega arith) at2)
-
--- what the table of the turned recording says of a node
-rest_of : (price place : Price) (rises : Rises) (after : List Node) (a : Asked) → AreNodes (turned price rises.count) rises after
-    → length after ≡ rises.count * 100 → (v : ℕ) → v < rises.count * 100 → Rest price place rises a v (cost_at after (turned_node rises.count v))
-rest_of price place rises after a are all v lt =
-    let w = turned_node rises.count v in
-    let less : w < length after = let l = turned_less rises.count v lt in omega arith in
-    subst (λ x. Rest price place rises a x (cost_at after w)) (turned_twice rises.count v lt)
-    (all_after price place rises after a are all (suc w) w (get_or after w no_node) (omega arith) (slice_get-get_or after w no_node less))
-
--- what the table says of a node before the interval
-all_of : (price place : Price) (rises : Rises) (before : List Node) (a : Asked) → AreNodes price rises before → length before ≡ rises.count * 100
-    → (v : ℕ) (cs : List Claim) → v < rises.count * 100 → v / 100 ≤ a.interval → AreClaims rises (claim_of v) cs
-    → (GivesAfter place a (claim_of v) cs → ⊥) → IsOther price place rises a (cost_at before v + cost_after price rises (claim_of v) cs)
-all_of price place rises before a are all v cs lt early h unlike =
-    let less : v < length before = omega arith in
-    all_before price place rises before a are all (suc v) v (get_or before v no_node) cs (omega arith) (slice_get-get_or before v no_node less) early h unlike
+all_after : (price place : Price) (rises : Rises) (after : List Node) (a : Asked) → AreNodes (turned price rises.count) rises rises.count after
+    → (fuel q e y : ℕ) → q < fuel → q < rises.count → e < rises.states → IsCost (turned price rises.count) rises after q e y
+    → Rest price place rises a (rises.count - 1 - q) e y
+all_after price place rises after a are zero q e y lt there small costs = absurd (omega arith)
+all_after price place rises after a are (suc fuel) q e y lt there small costs =
+    one_after price place rises after a q e y costs.way costs.way.from are costs.is.backed costs.exact there small
+    (λ m less is. all_after price place rises after a are fuel m.rise m.element m.cost (omega arith) is.rise is.element is.costs)
 
 -- each cost without a step over the interval is that of one
 pub other_without : (price place : Price) (rises : Rises) (before after : List Node) (a : Asked) (total : ℕ)
-    → AreNodes price rises before → AreNodes (turned price rises.count) rises after → length before ≡ rises.count * 100
-    → length after ≡ rises.count * 100 → CostsWithout rises before after a total → IsOther price place rises a total
-other_without price place rises before after a total are are2 all all2 (inl none) = record {
+    → AreTables price rises before after → a.interval < rises.count → CostsWithout rises before after a total → IsOther price place rises a total
+other_without price place rises before after a total are there (inl none) = record {
   claims = [];
   possible = tt;
   exact = sym none;
   elsewhere = λ p. p;
 }
-other_without price place rises before after a total are are2 all all2 (inr (inl ends)) =
-    let v = ends.last in let lt = ends.there in
+other_without price place rises before after a total are there (inr (inl ends)) =
+    let n = ends.node in let low = ends.early in
+    let is = All-contains (IsNode price rises rises.count before) before n are.before_least.each ends.there in
     subst (IsOther price place rises a) (sym ends.exact)
-    (all_of price place rises before a are all v [] lt ends.early (omega arith, omega arith) (λ p. p))
-other_without price place rises before after a total are are2 all all2 (inr (inr begins)) =
-    let v = begins.first in
-    let rest = rest_of price place rises after a are2 all2 v begins.there in record {
-      claims = claim_of v ∷ rest.claims;
+    (all_before price place rises before a are.before_least (suc n.rise) n.rise n.element n.cost [] (omega arith) is.costs (omega arith)
+    (is.rise, is.element) (λ p. p))
+other_without price place rises before after a total are there (inr (inr begins)) =
+    let n = begins.node in let low = begins.early in
+    let is = All-contains (IsNode (turned price rises.count) rises rises.count after) after n are.after_least.each begins.there in
+    let lt = is.rise in
+    let rest = all_after price place rises after a are.after_least (suc n.rise) n.rise n.element n.cost (omega arith) is.rise is.element is.costs in
+    let back : rises.count - n.rise - 1 ≡ rises.count - 1 - n.rise = omega arith in
+    let total_is = subst (λ m. total ≡ n.cost + rises.skip * m) back begins.exact in record {
+      claims = claim (rises.count - 1 - n.rise) n.element ∷ rest.claims;
       possible = rest.possible;
-      exact = omega (arith, rest.exact, begins.exact);
-      elsewhere = rest.late begins.late;
+      exact = omega (arith, rest.exact, total_is);
+      elsewhere = rest.late (omega arith);
     }
 
 -- and each with one that gives it another place
 pub other_over : (price place : Price) (rises : Rises) (before after : List Node) (a : Asked) (total : ℕ)
-    → AreNodes price rises before → AreNodes (turned price rises.count) rises after → length before ≡ rises.count * 100
-    → length after ≡ rises.count * 100 → OtherWayOver price place rises before after a total → IsOther price place rises a total
-other_over price place rises before after a total are are2 all all2 o =
-    let v = o.end in let u = o.to.start in let k = o.to.step.kind in
-    let ltv = o.there in let later = o.to.within.later in let near = o.to.within.near in
-    let rest = rest_of price place rises after a are2 all2 v ltv in
-    let cs = claim_as v k ∷ rest.claims in
-    let same : cost_at before u + cost_after price rises (claim_of u) cs ≡ total
-    = omega (arith, o.to.step.exact, rest.exact, any_cost price rises v k rest.claims) in
+    → AreTables price rises before after → OtherWay price place rises before after a total → IsOther price place rises a total
+other_over price place rises before after a total are o =
+    let early = o.over.early in let late = o.over.late in let last = o.over.last in
+    let back : rises.count - 1 - (rises.count - 1 - o.q) ≡ o.q = omega arith in
+    let rest = subst (λ n. Rest price place rises a n o.f o.y) back
+    (all_after price place rises after a are.after_least rises.count (rises.count - 1 - o.q) o.f o.y (omega arith) (omega arith) o.over.end o.end) in
+    let cs = claim_by o.q o.f o.kind ∷ rest.claims in
+    let same : o.x + cost_after price rises (claim o.r o.e) cs ≡ total
+    = omega (arith, o.exact, rest.exact, any_cost price rises (claim o.q o.f) o.kind rest.claims) in
     subst (IsOther price place rises a) same
-    (all_of price place rises before a are all u cs (omega arith) o.to.early
-    ((omega arith, omega arith), (later, near), any_kind rises v k rest.claims rest.possible)
-    (λ p. elim p [ inl q ↦ o.to.step.unlike q.1 | inr q ↦ rest.late o.late (any_place place a v k rest.claims q) ]))
+    (all_before price place rises before a are.before_least (suc o.r) o.r o.e o.x cs (omega arith) o.start (omega arith)
+    ((omega arith, o.over.start), (omega arith, o.over.near), any_kind rises (claim o.q o.f) o.kind rest.claims rest.possible)
+    (λ p. elim p [ inl s ↦ o.unlike s.1 | inr s ↦ rest.late late (any_place place a o.q o.f o.kind rest.claims s) ]))

@@ -1,70 +1,98 @@
 -- Claims that are read back from a node.
-use Rattle.std.proofs.Common.{◌≡◌, ◌+◌, ◌*◌, ◌/◌, ◌%◌, ◌<◌, ℕ, List, [], ◌∷◌, ◌++◌, reverse, MatchOption, slice_get, Option, Some, None, ap, sym, subst, arith, refl}
-use Rattle.std.proofs.lemmas.{List.reverse-append}
-use Rattle.irig_explain.specs.declared.{claim.Claim.Claim, claim.Kind.Kind, rises.Rises.Rises, nodes.Node.Node}
-use Rattle.irig_explain.specs.declared.claim.Kind.TheVariants.{Next}
-use Rattle.irig_explain.specs.Ends.{CanEnd, Sums, claim_of, left}
+use Rattle.std.proofs.Common.{◌≡◌, ◌+◌, ◌*◌, ◌<◌, ◌≤◌, ◌++◌, ◌∙◌, ℕ, List, [], ◌∷◌, reverse, MatchOption, slice_get, Option, Some, None, ap, sym, subst, arith, refl}
+use Rattle.std.specs.List.{All}
+use Rattle.std.proofs.lemmas.List.{reverse-append}
+use Rattle.std.proofs.lemmas.List.Elements.{All-contains}
+use Rattle.std.proofs.lemmas.Option.{get_or_from_slice_get}
+use Rattle.irig_explain.specs.declared.{claim.Claim.Claim, claim.Kind.Kind, rises.Rises.Rises, ends.End.End, nodes.Node.Node, ways.Way.Way}
+use Rattle.irig_explain.specs.Ends.{EndsAt, Follow, IsEnding, ending, rises_left}
 use Rattle.irig_explain.specs.Explanation.{Price, AreClaims, cost_after}
-use Rattle.irig_explain.specs.Nodes.{AreNodes, CameFrom}
-
--- what is read past the end of the table
-abbrev pub no_node : Node
-no_node = record { cost = 0; from = None; kind = Next }
-
--- nodes come from lower ones
-pub left_smaller : (price : Price) (rises : Rises) (nodes : List Node) (v : ℕ) (n : Node) (from : Option ℕ)
-    → MatchOption from (n.cost ≡ rises.skip * (v / 100)) (λ u. CameFrom price rises nodes v n u) → left from < v + 1
-left_smaller price rises nodes v n None b = omega arith
-left_smaller price rises nodes v n (Some u) b = let later = b.within.later in omega arith
+use Rattle.irig_explain.specs.Nodes.{AreNodes, ComesFrom, IsCost, IsLeast, IsLow, IsNode, claim_of}
+use Rattle.irig_explain.proofs.Members.{contains_at, no_node}
 
 -- the claim of a node, of a kind
-abbrev pub claim_as : ℕ → Kind → Claim
-claim_as v k = record { rise = v / 100; element = v % 100; kind = k }
+abbrev pub claim_as : Node → Kind → Claim
+claim_as n k = record { rise = n.rise; element = n.element; kind = k }
 
 -- the kind of the first claim says nothing of the claims after it
-pub any_kind : (rises : Rises) (v : ℕ) (k : Kind) (cs : List Claim) → AreClaims rises (claim_of v) cs → AreClaims rises (claim_as v k) cs
-any_kind rises v k [] h = h
-any_kind rises v k (c ∷ cs) h = h
+pub any_kind : (rises : Rises) (c : Claim) (k : Kind) (cs : List Claim) → AreClaims rises c cs → AreClaims rises (record { rise = c.rise; element = c.element; kind = k }) cs
+any_kind rises c k [] h = h
+any_kind rises c k (d ∷ ds) h = h
 
-pub any_cost : (price : Price) (rises : Rises) (v : ℕ) (k : Kind) (cs : List Claim)
-    → cost_after price rises (claim_as v k) cs ≡ cost_after price rises (claim_of v) cs
-any_cost price rises v k [] = refl
-any_cost price rises v k (c ∷ cs) = refl
+pub any_cost : (price : Price) (rises : Rises) (c : Claim) (k : Kind) (cs : List Claim)
+    → cost_after price rises (record { rise = c.rise; element = c.element; kind = k }) cs ≡ cost_after price rises c cs
+any_cost price rises c k [] = refl
+any_cost price rises c k (d ∷ ds) = refl
 
--- one claim more is read: it can follow the node before
-step_back : (price : Price) (rises : Rises) (nodes : List Node) (v : ℕ) (n : Node) (from : Option ℕ) (cs : List Claim)
-    → v < rises.count * 100 → AreClaims rises (claim_of v) cs
-    → MatchOption from (n.cost ≡ rises.skip * (v / 100)) (λ u. CameFrom price rises nodes v n u)
-    → CanEnd rises from (claim_as v n.kind ∷ cs)
-step_back price rises nodes v n None cs lt h b = any_kind rises v n.kind cs h
-step_back price rises nodes v n (Some u) cs lt h b =
-    let later = b.within.later in let near = b.within.near in
-    (omega arith, ((omega arith, omega arith), (later, near), any_kind rises v n.kind cs h))
+-- no way costs less than a low number
+pub below_way : (price : Price) (rises : Rises) (nodes : List Node) (q f low : ℕ) (w : Way) → IsLow price rises nodes q f low → (from : Option ℕ)
+    → MatchOption from (w.cost ≡ rises.skip * q) (λ u. ComesFrom price rises nodes q f w u) → low ≤ w.cost
+below_way price rises nodes q f low w h None b = omega (arith, h.first, b)
+below_way price rises nodes q f low w h (Some u) b = omega (arith, h.steps b.before w.kind (contains_at nodes u b.before b.at) b.within, b.exact)
 
-sum_back : (price : Price) (rises : Rises) (nodes : List Node) (v : ℕ) (n : Node) (from : Option ℕ) (cs : List Claim) (total : ℕ)
-    → n.cost + cost_after price rises (claim_of v) cs ≡ total
-    → MatchOption from (n.cost ≡ rises.skip * (v / 100)) (λ u. CameFrom price rises nodes v n u)
-    → Sums price rises nodes from (claim_as v n.kind ∷ cs) total
-sum_back price rises nodes v n None cs total h b = omega (arith, any_cost price rises v n.kind cs)
-sum_back price rises nodes v n (Some u) cs total h b = λ m at.
-    let same : b.before ≡ m = let e = b.at in cc in
-    let less = ap (λ (x : Node). x.cost) same in
-    omega (arith, any_cost price rises v n.kind cs, b.cost, less)
+pub below_cost : (price : Price) (rises : Rises) (nodes : List Node) (q f low cost : ℕ) → IsLow price rises nodes q f low
+    → IsCost price rises nodes q f cost → low ≤ cost
+below_cost price rises nodes q f low cost low_ h = omega (arith, below_way price rises nodes q f low h.way low_ h.way.from h.is.backed, h.exact)
+
+-- two least costs are the same
+pub same_least : (price : Price) (rises : Rises) (nodes : List Node) (q f cost : ℕ) (w : Way) → IsLeast price rises nodes q f w
+    → IsCost price rises nodes q f cost → w.cost ≡ cost
+same_least price rises nodes q f cost w is h =
+    let up = below_cost price rises nodes q f w.cost cost is.low h in
+    let down = below_way price rises nodes q f h.way.cost w h.is.low w.from is.backed in
+    omega (arith, up, down, h.exact)
 
 -- the list as it is written: the claim comes after those that were read
 pub reversed : (cs : List Claim) (c : Claim) → reverse (cs ++ c ∷ []) ≡ c ∷ reverse cs
 reversed cs c = reverse-append cs (c ∷ [])
 
-pub can_back : (price : Price) (rises : Rises) (nodes : List Node) (v : ℕ) (n : Node) (cs : List Claim)
-    → AreNodes price rises nodes → slice_get nodes v ≡ Some n → CanEnd rises (Some v) (reverse cs)
-    → CanEnd rises n.from (reverse (cs ++ claim_as v n.kind ∷ []))
-can_back price rises nodes v n cs all at h =
-    subst (CanEnd rises n.from) (sym (reversed cs (claim_as v n.kind)))
-    (step_back price rises nodes v n n.from (reverse cs) h.0 h.1 (all v n at).backed)
+-- one claim more is read: it and those after it can follow the node before
+step_back : (price : Price) (rises : Rises) (nodes : List Node) (n : Node) (cs : List Claim) (total : ℕ) (w : Way) (from : Option ℕ)
+    → IsNode price rises rises.count nodes n → All (IsNode price rises rises.count nodes) nodes → AreClaims rises (claim_of n) cs
+    → n.cost + cost_after price rises (claim_of n) cs ≡ total → w.cost ≡ n.cost
+    → MatchOption from (w.cost ≡ rises.skip * n.rise) (λ u. ComesFrom price rises nodes n.rise n.element w u)
+    → IsEnding price rises nodes (claim_as n w.kind ∷ cs) total from
+step_back price rises nodes n cs total w None is each h exact same b =
+    (any_kind rises (claim_of n) w.kind cs h, omega (arith, any_cost price rises (claim_of n) w.kind cs, exact, same, b))
+step_back price rises nodes n cs total w (Some u) is each h exact same b =
+    let m = b.before in
+    let before = All-contains (IsNode price rises rises.count nodes) nodes m each (contains_at nodes u m b.at) in record {
+      node = m;
+      at = b.at;
+      possible = ((before.rise, before.element), (b.within.later, b.within.near), any_kind rises (claim_of n) w.kind cs h);
+      exact = omega (arith, any_cost price rises (claim_of n) w.kind cs, exact, same, b.exact);
+    }
 
-pub sums_back : (price : Price) (rises : Rises) (nodes : List Node) (v : ℕ) (n : Node) (cs : List Claim) (total : ℕ)
-    → AreNodes price rises nodes → slice_get nodes v ≡ Some n → Sums price rises nodes (Some v) (reverse cs) total
-    → Sums price rises nodes n.from (reverse (cs ++ claim_as v n.kind ∷ [])) total
-sums_back price rises nodes v n cs total all at h =
-    subst (λ xs. Sums price rises nodes n.from xs total) (sym (reversed cs (claim_as v n.kind)))
-    (sum_back price rises nodes v n n.from (reverse cs) total (h n at) (all v n at).backed)
+pub read_more : (price : Price) (rises : Rises) (nodes : List Node) (cs : List Claim) (total v : ℕ) (n : Node) (w : Way)
+    → AreNodes price rises rises.count nodes → slice_get nodes v ≡ Some n → IsLeast price rises nodes n.rise n.element w
+    → Follow price rises nodes (reverse cs) total v
+    → IsEnding price rises nodes (reverse (cs ++ claim_as n w.kind ∷ [])) total w.from
+read_more price rises nodes cs total v n w are at least follow =
+    let is = All-contains (IsNode price rises rises.count nodes) nodes n are.each (contains_at nodes v n at) in
+    let same : follow.node ≡ n = let e = follow.at in cc in
+    let possible = subst (λ x. AreClaims rises (claim_of x) (reverse cs)) same follow.possible in
+    let exact = subst (λ x. x.cost + cost_after price rises (claim_of x) (reverse cs) ≡ total) same follow.exact in
+    subst (λ xs. IsEnding price rises nodes xs total w.from) (sym (reversed cs (claim_as n w.kind)))
+    (step_back price rises nodes n (reverse cs) total w w.from is are.each possible exact (same_least price rises nodes n.rise n.element n.cost w least is.costs) least.backed)
+
+-- nodes come from those of earlier rises
+pub left_smaller : (price : Price) (rises : Rises) (nodes : List Node) (v : ℕ) (n : Node) (w : Way) (from : Option ℕ) → slice_get nodes v ≡ Some n
+    → MatchOption from (w.cost ≡ rises.skip * n.rise) (λ u. ComesFrom price rises nodes n.rise n.element w u)
+    → rises_left nodes from < rises_left nodes (Some v)
+left_smaller price rises nodes v n w None at b = omega arith
+left_smaller price rises nodes v n w (Some u) at b =
+    let here = ap (λ (x : Node). x.rise) (get_or_from_slice_get nodes v n no_node at) in
+    let there = ap (λ (x : Node). x.rise) (get_or_from_slice_get nodes u b.before no_node b.at) in
+    let later = b.within.later in omega (arith, here, there)
+
+-- nothing is read yet: the end is one
+pub ends_at : (price : Price) (rises : Rises) (nodes : List Node) (e : End) (last : Option ℕ) → AreNodes price rises rises.count nodes
+    → MatchOption last (e.cost ≡ rises.skip * rises.count) (λ v. EndsAt rises nodes e.cost v) → IsEnding price rises nodes [] e.cost last
+ends_at price rises nodes e None are b = (tt, sym b)
+ends_at price rises nodes e (Some v) are b =
+    let is = All-contains (IsNode price rises rises.count nodes) nodes b.last are.each (contains_at nodes v b.last b.at) in record {
+      node = b.last;
+      at = b.at;
+      possible = (is.rise, is.element);
+      exact = sym b.cost;
+    }

@@ -6,9 +6,9 @@ use Rattle.irig_explain.specs.declared.{claim.Claim.Claim, claim.Kind.Kind, rise
 abbrev pub Price : Type 0
 Price = ℕ → ℕ → ℕ → ℕ → Kind → ℕ
 
--- a claim is about a rise that there is, and an element of a frame
+-- a claim is about a rise that there is, and one of the elements
 abbrev pub IsClaim : Rises → Claim → Type 0
-IsClaim rises c = (c.rise < rises.count) × (c.element < 100)
+IsClaim rises c = (c.rise < rises.count) × (c.element < rises.states)
 
 -- a step leads from a claim to one of a later rise, in the window
 abbrev pub IsStep : Rises → Claim → Claim → Type 0

@@ -1,5 +1,8 @@
 pub mod Explanation
 pub mod Nodes
+pub mod Rows
+pub mod Near
+pub mod Offers
 pub mod Ends
 pub mod Sure
 pub mod Turned

@@ -1,65 +1,72 @@
--- The table of nodes: node 100 r + e is the claim that rise r is element e. This project's own.
-use Rattle.std.specs.Prelude.{ℕ, ◌≡◌, ◌+◌, ◌*◌, ◌/◌, ◌%◌, ◌<◌, ◌≤◌, ◌⊎◌, List, None, Some, MatchOption, slice_get, slice_index_or}
-use Rattle.irig_explain.specs.declared.{claim.Kind.Kind, rises.Rises.Rises}
+-- The table of nodes: claims, each with the least cost of all ways to it. This project's own.
+use Rattle.std.specs.Prelude.{ℕ, ◌≡◌, ◌+◌, ◌*◌, ◌<◌, ◌≤◌, ◌⊎◌, All, Contains, List, MatchOption, Some, slice_get}
+use Rattle.std.specs.List.Sorted.{IsNonDecreasingBy}
+use Rattle.irig_explain.specs.declared.{claim.Claim.Claim, claim.Kind.Kind, rises.Rises.Rises}
 use Rattle.irig_explain.specs.declared.claim.Kind.TheVariants.{Next}
-use Rattle.irig_explain.specs.declared.nodes.Node.{Node}
+use Rattle.irig_explain.specs.declared.{nodes.Node.Node, ways.Way.Way}
 use Rattle.irig_explain.specs.Explanation.{Price}
 
--- what a step from a node to another costs
-abbrev pub way : Price → ℕ → ℕ → Kind → ℕ
-way price u v k = price (u / 100) (u % 100) (v / 100) (v % 100) k
+-- the claim of a node, of some kind
+abbrev pub claim_of : Node → Claim
+claim_of n = record { rise = n.rise; element = n.element; kind = Next }
 
--- a step can lead from a node to another
-pub record Within (rises : Rises) (u v : ℕ) : Type 0 where
-  pub later : u / 100 < v / 100
-  pub near : v / 100 ≤ u / 100 + rises.window
+-- a step can lead from a node to a rise
+pub record Within (rises : Rises) (m : Node) (q : ℕ) : Type 0 where
+  pub later : m.rise < q
+  pub near : q ≤ m.rise + rises.window
 
--- the cost of a node is that of a step from another one
-pub record CameFrom (price : Price) (rises : Rises) (nodes : List Node) (v : ℕ) (n : Node) (u : ℕ)
+-- what a node costs, and a step from it to a rise and its element
+abbrev pub going : Price → Node → ℕ → ℕ → Kind → ℕ
+going price m q f k = m.cost + price m.rise m.element q f k
+
+-- no way to a claim costs less: neither as the first one, nor by a step from a node
+pub record IsLow (price : Price) (rises : Rises) (nodes : List Node) (q f low : ℕ) : Type 0 where
+  pub first : low ≤ rises.skip * q
+  pub steps : (m : Node) (k : Kind) → Contains nodes m → Within rises m q
+      → low ≤ going price m q f k
+
+-- a way to a claim is a step from that node
+pub record ComesFrom (price : Price) (rises : Rises) (nodes : List Node) (q f : ℕ) (w : Way) (u : ℕ)
     : Type 0 where
   pub before : Node
   pub at : slice_get nodes u ≡ Some before
-  pub within : Within rises u v
-  pub cost : n.cost ≡ before.cost + way price u v n.kind
+  pub within : Within rises before q
+  pub exact : w.cost ≡ going price before q f w.kind
 
--- a node has the least cost of all ways to it, and says where that way comes from
-pub record IsNode (price : Price) (rises : Rises) (nodes : List Node) (v : ℕ) (n : Node)
+-- a way to a claim is one, and none costs less
+pub record IsLeast (price : Price) (rises : Rises) (nodes : List Node) (q f : ℕ) (w : Way)
     : Type 0 where
-  pub first : n.cost ≤ rises.skip * (v / 100)
-  pub least : (u : ℕ) (m : Node) (k : Kind) → slice_get nodes u ≡ Some m → Within rises u v
-      → n.cost ≤ m.cost + way price u v k
-  pub backed : MatchOption n.from (n.cost ≡ rises.skip * (v / 100))
-      (λ u. CameFrom price rises nodes v n u)
+  pub low : IsLow price rises nodes q f w.cost
+  pub backed : MatchOption w.from (w.cost ≡ rises.skip * q)
+      (λ u. ComesFrom price rises nodes q f w u)
 
--- each is
-abbrev pub AreNodes : Price → Rises → List Node → Type 0
-AreNodes price rises nodes =
-    (v : ℕ) (n : Node) → slice_get nodes v ≡ Some n → IsNode price rises nodes v n
+-- the least cost of all ways to a claim
+pub record IsCost (price : Price) (rises : Rises) (nodes : List Node) (q f cost : ℕ) : Type 0 where
+  pub way : Way
+  pub is : IsLeast price rises nodes q f way
+  pub exact : way.cost ≡ cost
 
--- what a node costs
-abbrev pub cost_at : List Node → ℕ → ℕ
-cost_at nodes v = (slice_index_or nodes v (record { cost = 0; from = None; kind = Next })).cost
+-- a node is a claim of one of the first rises, with its least cost
+pub record IsNode (price : Price) (rises : Rises) (done : ℕ) (nodes : List Node) (n : Node)
+    : Type 0 where
+  pub rise : n.rise < done
+  pub element : n.element < rises.states
+  pub costs : IsCost price rises nodes n.rise n.element n.cost
 
--- each number is that of a node of the rise that is its place in the list
-abbrev pub AreOfRises : List ℕ → Type 0
-AreOfRises bests = (r w : ℕ) → slice_get bests r ≡ Some w → w / 100 ≡ r
+-- a node stands for a claim: it is of its rise, costs no more, and no step from the claim is cheaper
+-- than one from the node, of some kind
+pub record IsKnown (price : Price) (rises : Rises) (nodes : List Node) (r e : ℕ) : Type 0 where
+  pub node : Node
+  pub there : Contains nodes node
+  pub beside : node.rise ≡ r
+  pub least : ℕ
+  pub costs : IsCost price rises nodes r e least
+  pub cheap : node.cost ≤ least
+  pub steps : (q f : ℕ) (k : Kind) → (l : Kind)
+      × (going price node q f l ≤ least + price r e q f k)
 
--- what the node of a rise costs that is in the list
-abbrev pub known : List Node → List ℕ → ℕ → ℕ
-known nodes bests r = cost_at nodes (slice_index_or bests r 0)
-
--- a node, or the way to it from one before if that costs no more than the known one of its rise and
--- a jump, whichever is cheaper
-pub record Looked (price : Price) (nodes : List Node) (bests : List ℕ) (most u v : ℕ)
-    (best n : Node) : Type 0 where
-  pub kept : n.cost ≤ best.cost
-  pub least : cost_at nodes u ≤ known nodes bests (u / 100) + most → (k : Kind)
-      → n.cost ≤ cost_at nodes u + way price u v k
-  pub origin : (n ≡ best)
-      ⊎ ((n.from ≡ Some u) × (n.cost ≡ cost_at nodes u + way price u v n.kind))
-
--- a node, or the way to it from one before, whichever is cheaper
-pub record Offered (price : Price) (spent u v : ℕ) (best n : Node) : Type 0 where
-  pub kept : n.cost ≤ best.cost
-  pub least : (k : Kind) → n.cost ≤ spent + way price u v k
-  pub origin : (n ≡ best) ⊎ ((n.from ≡ Some u) × (n.cost ≡ spent + way price u v n.kind))
+-- the nodes of the first rises, in their order: each claim of these has one that stands for it
+pub record AreNodes (price : Price) (rises : Rises) (done : ℕ) (nodes : List Node) : Type 0 where
+  pub known : (r e : ℕ) → r < done → e < rises.states → IsKnown price rises nodes r e
+  pub each : All (IsNode price rises done nodes) nodes
+  pub sorted : IsNonDecreasingBy (λ n. n.rise) nodes

@@ -1,29 +1,27 @@
 -- What steps cost that give an interval another place. This project's own.
-use Rattle.std.specs.Prelude.{ℕ, ◌≡◌, ◌+◌, ◌*◌, ◌/◌, ◌<◌, ◌≤◌, List}
+use Rattle.std.specs.Prelude.{ℕ, ◌≡◌, ◌+◌, ◌-◌, ◌<◌, ◌≤◌, List}
 use Rattle.irig_explain.specs.declared.{asked.Asked.Asked, claim.Kind.Kind, rises.Rises.Rises}
 use Rattle.irig_explain.specs.declared.nodes.Node.{Node}
-use Rattle.irig_explain.specs.{Explanation.Price, Turned.turned_node}
-use Rattle.irig_explain.specs.Nodes.{Within, cost_at, way}
+use Rattle.irig_explain.specs.{Bounds.IsOver, Explanation.Price, Nodes.IsCost, Turned.turned}
 
--- what a step between two nodes costs that gives the interval another place
-pub record OtherWay (price place : Price) (a : Asked) (base u v total : ℕ) : Type 0 where
-  pub kind : Kind
-  pub unlike : way place u v kind ≡ a.place → ⊥
-  pub exact : total ≡ base + way price u v kind
-
--- one to a node
-pub record OtherWayTo (price place : Price) (rises : Rises) (before : List Node) (a : Asked)
-    (rest v total : ℕ) : Type 0 where
-  pub start : ℕ
-  pub within : Within rises start v
-  pub early : start / 100 ≤ a.interval
-  pub step : OtherWay price place a (cost_at before start + rest) start v total
-
--- any
-pub record OtherWayOver (price place : Price) (rises : Rises) (before after : List Node) (a : Asked)
+-- what an explanation costs with a step that gives the interval another place
+pub record OtherWay (price place : Price) (rises : Rises) (before after : List Node) (a : Asked)
     (total : ℕ) : Type 0 where
-  pub end : ℕ
-  pub there : end < rises.count * 100
-  pub late : a.interval < end / 100
-  pub to : OtherWayTo price place rises before a
-      (cost_at after (turned_node rises.count end)) end total
+  pub r : ℕ
+  pub e : ℕ
+  pub q : ℕ
+  pub f : ℕ
+  pub kind : Kind
+  pub over : IsOver rises a r e q f
+  pub unlike : place r e q f kind ≡ a.place → ⊥
+  pub x : ℕ
+  pub y : ℕ
+  pub start : IsCost price rises before r e x
+  pub end : IsCost (turned price rises.count) rises after (rises.count - 1 - q) f y
+  pub exact : total ≡ x + price r e q f kind + y
+
+-- what a step between two claims costs, after what is spent, that gives the interval another place
+pub record OtherKind (price place : Price) (a : Asked) (spent r e q f total : ℕ) : Type 0 where
+  pub kind : Kind
+  pub unlike : place r e q f kind ≡ a.place → ⊥
+  pub exact : total ≡ spent + price r e q f kind

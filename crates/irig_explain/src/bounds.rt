@@ -1,154 +1,110 @@
 //! The least costs of explanations that do not give an interval the place.
 
-ghost use Rattle.std.specs.Prelude.{◌≡◌, ◌+◌, ◌*◌, ◌/◌, ◌%◌, ◌^◌, ◌<◌, ◌≤◌, ◌⊎◌, length};
-ghost use Rattle.irig_explain.specs.Ends.{IsTable};
-ghost use Rattle.irig_explain.specs.Bounds.{Elsewhere, ElsewhereTo, NoStep, OtherStep};
-ghost use Rattle.irig_explain.specs.Turned.{turned_node};
-ghost use Rattle.irig_explain.specs.Ways.{OtherWay, OtherWayOver, OtherWayTo};
+ghost use Rattle.std.specs.Prelude.{◌≡◌, ◌+◌, ◌-◌, ◌^◌, ◌<◌, ◌≤◌, ◌⊎◌, Contains};
+ghost use Rattle.irig_explain.specs.Ends.{IsTable, ending};
+ghost use Rattle.irig_explain.specs.Bounds.{ElsewhereBetween, EndsBelow, NoStep};
+ghost use Rattle.irig_explain.specs.Ways.{OtherKind};
+ghost use Rattle.irig_explain.specs.declared.nodes.Node.{Node};
 
 use crate::asked::Asked;
-use crate::claim::{Claim, ELEMENTS, Kind};
+use crate::claim::{Claim, Kind};
 use crate::costs::{Costs, Places};
-use crate::nodes::{Node, claim};
+use crate::nodes::Node;
 use crate::rises::Rises;
 
 /// The least cost without a step over the interval.
 pub fn without_step(rises: Rises, before: &[Node], after: &[Node], asked: Asked) -> u64
     requires tables { IsTable rises before.now × IsTable rises after.now }
-    requires all { (length before.now ≡ rises.count * 100)
-        × (length after.now ≡ rises.count * 100) }
     requires few { rises.count ≤ 2 ^ 30 }
+    requires there { asked.interval < rises.count }
     ensures { NoStep rises before.now after.now asked result }
 {
-    let mut best = rises.skipped(rises.count);
-    for number in 0..rises.count * ELEMENTS {
-        let rise = number / ELEMENTS;
-        let cost = if rise <= asked.interval {
-            before[number].cost + rises.skipped(rises.count - rise - 1)
-        } else {
-            rises.skipped(rise) + after[turned(rises.count, number)].cost
-        };
-        best = best.min(cost);
-    }
-    best
+    let best = rises.skipped(rises.count);
+    let best = ends_below(rises, before, asked.interval + 1, best);
+    ends_below(rises, after, rises.count - 1 - asked.interval, best)
 }
 
-/// The node in a table of a recording that is read from its end.
-fn turned(count: usize, number: usize) -> usize
-    requires there { number < count * 100 }
-    requires few { count ≤ 2 ^ 30 }
-    ensures { result ≡ turned_node count number }
-{
-    (count - 1 - number / ELEMENTS) * ELEMENTS + number % ELEMENTS
-}
-
-/// The least of a cost, and those with a step over the interval that gives it another place.
-pub fn with_steps<C: Costs + Places>(
-    costs: &C,
-    rises: Rises,
-    before: &[Node],
-    after: &[Node],
-    asked: Asked,
-    best: u64,
-) -> u64
-    requires tables { IsTable rises before.now × IsTable rises after.now }
-    requires all { (length before.now ≡ rises.count * 100)
-        × (length after.now ≡ rises.count * 100) }
+/// The least of a cost, and those of explanations that end at a node of one of the first rises. In
+/// a table of a recording that is read from its end they begin there.
+fn ends_below(rises: Rises, nodes: &[Node], below: usize, best: u64) -> u64
+    requires table { IsTable rises nodes.now }
     requires few { rises.count ≤ 2 ^ 30 }
-    requires there { asked.interval < rises.count }
     ensures kept { result ≤ best }
-    ensures least { OtherStep (C.price costs.now) (C.place costs.now) rises
-        before.now after.now asked result }
-    ensures origin { (result ≡ best) ⊎ OtherWayOver (C.price costs.now) (C.place costs.now) rises
-        before.now after.now asked result }
+    ensures least { (n : Node) → Contains nodes.now n → n.rise < below → result ≤ ending rises n }
+    ensures origin { (result ≡ best) ⊎ EndsBelow rises nodes.now below result }
 {
     let mut least = best;
-    let end = rises
-        .count
-        .min((asked.interval + 1).saturating_add(rises.window));
-    for number in (asked.interval + 1) * ELEMENTS..end * ELEMENTS {
-        let rest = after[turned(rises.count, number)].cost;
-        least = with_steps_to(costs, rises, before, rest, number, asked, least);
+    for number in 0..nodes.len() {
+        least = with_end(rises, nodes[number], below, least);
     }
     least
 }
 
-/// The least of a cost, and those with such a step to one node. What comes after the node costs
-/// `rest`.
-fn with_steps_to<C: Costs + Places>(
-    costs: &C,
-    rises: Rises,
-    before: &[Node],
-    rest: u64,
-    number: usize,
-    asked: Asked,
-    best: u64,
-) -> u64
-    requires table { IsTable rises before.now }
-    requires all { length before.now ≡ rises.count * 100 }
+/// The least of a cost, and that of an explanation that ends at a node, if it is of those rises.
+fn with_end(rises: Rises, node: Node, below: usize, best: u64) -> u64
+    requires there { node.rise < rises.count }
     requires few { rises.count ≤ 2 ^ 30 }
-    requires rest { rest < 2 ^ 62 }
-    requires there { asked.interval < rises.count }
-    requires late { asked.interval < number / 100 }
+    requires small { node.cost < 2 ^ 63 }
     ensures kept { result ≤ best }
-    ensures least { ElsewhereTo (C.price costs.now) (C.place costs.now) rises
-        before.now asked rest number result }
-    ensures origin { (result ≡ best) ⊎ OtherWayTo (C.price costs.now) (C.place costs.now) rises
-        before.now asked rest number result }
+    ensures least { node.rise < below → result ≤ ending rises node }
+    ensures origin { (result ≡ best) ⊎ ((node.rise < below) × (result ≡ ending rises node)) }
 {
-    let mut least = best;
-    for from in (number / ELEMENTS).saturating_sub(rises.window) * ELEMENTS
-        ..(asked.interval + 1) * ELEMENTS
-    {
-        let base = before[from].cost + rest;
-        least = with_step(costs, base, from, number, asked, least);
+    if below <= node.rise as usize {
+        return best;
     }
-    least
+    let after = rises.count - node.rise as usize - 1;
+    best.min(node.cost + rises.skipped(after))
 }
 
-/// The least of a cost, and those with such a step between two nodes.
-fn with_step<C: Costs + Places>(
+/// The least of a cost, and those with a step between two claims that gives the interval another
+/// place, after what is spent.
+pub fn with_step<C: Costs + Places>(
     costs: &C,
-    base: u64,
-    from: usize,
-    number: usize,
+    spent: u64,
+    from: Claim,
+    to: Claim,
     asked: Asked,
     best: u64,
 ) -> u64
-    requires { base < 2 ^ 63 }
+    requires { spent < 2 ^ 63 }
     ensures kept { result ≤ best }
-    ensures least { Elsewhere (C.price costs.now) (C.place costs.now)
-        asked base from number result }
-    ensures origin { (result ≡ best) ⊎ OtherWay (C.price costs.now) (C.place costs.now)
-        asked base from number result }
+    ensures least { ElsewhereBetween (C.price costs.now) (C.place costs.now) asked spent
+        from.rise from.element to.rise to.element result }
+    ensures origin { (result ≡ best) ⊎ OtherKind (C.price costs.now) (C.place costs.now) asked spent
+        from.rise from.element to.rise to.element result }
 {
-    let next = with_kind(costs, base, from, claim(number, Kind::Next), asked, best);
-    let step = with_kind(costs, base, from, claim(number, Kind::Step), asked, next);
-    with_kind(costs, base, from, claim(number, Kind::Jump), asked, step)
+    let next = with_kind(costs, spent, from, to, Kind::Next, asked, best);
+    let step = with_kind(costs, spent, from, to, Kind::Step, asked, next);
+    with_kind(costs, spent, from, to, Kind::Jump, asked, step)
 }
 
 /// The least of a cost, and that with a step of one kind, if it gives the interval another place.
 fn with_kind<C: Costs + Places>(
     costs: &C,
-    base: u64,
-    from: usize,
+    spent: u64,
+    from: Claim,
     to: Claim,
+    kind: Kind,
     asked: Asked,
     best: u64,
 ) -> u64
-    requires { base < 2 ^ 63 }
+    requires { spent < 2 ^ 63 }
     ensures kept { result ≤ best }
-    ensures least { (C.place costs.now (from / 100) (from % 100) to.rise to.element to.kind
+    ensures least { (C.place costs.now from.rise from.element to.rise to.element kind
         ≡ asked.place → ⊥)
-        → result ≤ base + C.price costs.now (from / 100) (from % 100) to.rise to.element to.kind }
+        → result ≤ spent + C.price costs.now from.rise from.element to.rise to.element kind }
     ensures origin { (result ≡ best) ⊎
-        ((C.place costs.now (from / 100) (from % 100) to.rise to.element to.kind ≡ asked.place → ⊥)
-        × (result ≡ base
-        + C.price costs.now (from / 100) (from % 100) to.rise to.element to.kind)) }
+        ((C.place costs.now from.rise from.element to.rise to.element kind ≡ asked.place → ⊥)
+        × (result ≡ spent
+        + C.price costs.now from.rise from.element to.rise to.element kind)) }
 {
-    let start = claim(from, Kind::Next);
-    if costs.place(start, to) == asked.place {
+    let to = Claim {
+        rise: to.rise,
+        element: to.element,
+        kind,
+    };
+    if costs.place(from, to) == asked.place {
         return best;
     }
-    best.min(base + u64::from(costs.price(start, to)))
+    best.min(spent + u64::from(costs.price(from, to)))
 }

@@ -1,8 +1,5 @@
 //! What an explanation says of one rise.
 
-/// How many elements are in a frame. Claims count them from 0.
-pub const ELEMENTS: usize = 100;
-
 /// What a step to a claim says of the element number and the time.
 #[derive(Clone, Copy)]
 pub enum Kind {
@@ -19,7 +16,7 @@ pub enum Kind {
 pub struct Claim {
     /// The number of the rise in the recording, from 0.
     pub rise: usize,
-    /// The number of the element in its frame, from 0.
+    /// The number of the element, from 0. What else the caller wants to tell apart can be in it.
     pub element: usize,
     /// The kind of the step from the claim before.
     pub kind: Kind,

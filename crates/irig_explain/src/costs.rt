@@ -1,6 +1,6 @@
 //! What steps cost, and the places that they give.
 
-ghost use Rattle.std.specs.Prelude.{ℕ, ◌≡◌, ◌≤◌};
+ghost use Rattle.std.specs.Prelude.{ℕ, ◌≡◌, ◌+◌, ◌≤◌};
 ghost use Rattle.irig_explain.specs.declared.claim.Kind.{Kind};
 ghost use Rattle.irig_explain.specs.declared.claim.Kind.TheVariants.{Jump};
 
@@ -15,9 +15,16 @@ pub trait Costs {
     fn price(&self, from: Claim, to: Claim) -> u32
         ensures { result ≡ price self.now from.rise from.element to.rise to.element to.kind };
 
-    /// What a jump costs at most. The less this is, the fewer claims steps are priced from.
-    fn most(&self) -> u32
-        ensures { (r e q f : ℕ) → price self.now r e q f Jump ≤ result };
+    /// How much more a jump costs, at most, than any step between the same rises to the same
+    /// element. The less this is, the fewer claims have nodes.
+    fn most_to(&self) -> u32
+        ensures { (r e d q f : ℕ) (k : Kind)
+            → price self.now r e q f Jump ≤ price self.now r d q f k + result };
+
+    /// The same of steps from the same element.
+    fn most_from(&self) -> u32
+        ensures { (r e q f g : ℕ) (k : Kind)
+            → price self.now r e q f Jump ≤ price self.now r e q g k + result };
 }
 
 /// The place that a step gives to each interval between rises that it goes over. `place` takes what

@@ -1,9 +1,8 @@
 //! Where an explanation ends.
 
-ghost use Rattle.std.specs.Prelude.{◌≡◌, ◌+◌, ◌*◌, ◌^◌, ◌<◌, ◌≤◌, ◌⊎◌, length};
+ghost use Rattle.std.specs.Prelude.{◌≡◌, ◌+◌, ◌*◌, ◌^◌, ◌<◌, ◌≤◌, ◌⊎◌};
 ghost use Rattle.irig_explain.specs.Ends.{IsEnd, IsTable};
 
-use crate::claim::ELEMENTS;
 use crate::nodes::Node;
 use crate::rises::Rises;
 
@@ -12,14 +11,13 @@ use crate::rises::Rises;
 pub struct End {
     /// What the whole explanation costs.
     pub cost: u64,
-    /// The node of the last claim; `None` if there is no claim.
+    /// The number of the node of the last claim; `None` if there is no claim.
     pub last: Option<usize>,
 }
 
 /// The cheapest end.
 pub fn cheapest_end(rises: Rises, nodes: &[Node]) -> End
     requires table { IsTable rises nodes.now }
-    requires all { length nodes.now ≡ rises.count * 100 }
     requires few { rises.count ≤ 2 ^ 31 }
     ensures { IsEnd rises nodes.now result }
 {
@@ -28,9 +26,10 @@ pub fn cheapest_end(rises: Rises, nodes: &[Node]) -> End
         last: None,
     };
     for number in 0..nodes.len() {
-        let after = rises.count - number / ELEMENTS - 1;
+        let node = nodes[number];
+        let after = rises.count - node.rise as usize - 1;
         let end = End {
-            cost: nodes[number].cost + rises.skipped(after),
+            cost: node.cost + rises.skipped(after),
             last: Some(number),
         };
         best = cheaper_end(best, end);

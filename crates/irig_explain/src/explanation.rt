@@ -1,8 +1,7 @@
 //! The cheapest explanation.
 
-ghost use Rattle.std.specs.Prelude.{◌≡◌, ◌*◌, ◌^◌, ◌≤◌, IfOk, List, length};
-ghost use Rattle.irig_explain.specs.Ends.{IsTable};
-ghost use Rattle.irig_explain.specs.Explanation.{IsExplanation, Price, cost};
+ghost use Rattle.std.specs.Prelude.{◌≡◌, ◌^◌, ◌≤◌, IfOk, List};
+ghost use Rattle.irig_explain.specs.Explanation.{IsExplanation, cost};
 ghost use Rattle.irig_explain.specs.Nodes.{AreNodes};
 ghost use Rattle.irig_explain.specs.declared.claim.Claim.{Claim};
 
@@ -35,26 +34,25 @@ pub fn explain<C: Costs>(alloc: Global, costs: &C, rises: Rises) -> Result<Expla
         → x.cost ≤ cost (C.price costs.now) rises others) }
 {
     let nodes = nodes(alloc, costs, rises)?;
-    cheapest_of(alloc, rises, nodes.as_slice())
+    cheapest_of(alloc, costs, rises, nodes.as_slice())
 }
 
 /// The cheapest explanation that a table of nodes has.
-pub(crate) fn cheapest_of(
+pub(crate) fn cheapest_of<C: Costs>(
     alloc: Global,
+    costs: &C,
     rises: Rises,
     nodes: &[Node],
 ) -> Result<Explanation, AllocError>
-    requires table { IsTable rises nodes.now }
-    requires all { length nodes.now ≡ rises.count * 100 }
+    requires table { AreNodes (C.price costs.now) rises rises.count nodes.now }
     requires few { rises.count ≤ 2 ^ 31 }
     ensures possible { IfOk result (λ x. IsExplanation rises x.claims.items) }
-    ensures exact { IfOk result (λ x. (price : Price) → AreNodes price rises nodes.now
-        → cost price rises x.claims.items ≡ x.cost) }
-    ensures least { IfOk result (λ x. (price : Price) → AreNodes price rises nodes.now
-        → (others : List Claim) → IsExplanation rises others → x.cost ≤ cost price rises others) }
+    ensures exact { IfOk result (λ x. cost (C.price costs.now) rises x.claims.items ≡ x.cost) }
+    ensures least { IfOk result (λ x. (others : List Claim) → IsExplanation rises others
+        → x.cost ≤ cost (C.price costs.now) rises others) }
 {
     let end = cheapest_end(rises, nodes);
-    let claims = read_back(alloc, rises, nodes, end)?;
+    let claims = read_back(alloc, costs, rises, nodes, end)?;
     Ok(Explanation {
         claims,
         cost: end.cost,

@@ -7,14 +7,17 @@ mod claim;
 mod costs;
 mod ends;
 mod explanation;
+mod near;
 mod nodes;
+mod over;
 mod read_back;
 mod rises;
 mod tables;
 mod turned;
+mod ways;
 
 pub use asked::Asked;
-pub use claim::{Claim, ELEMENTS, Kind};
+pub use claim::{Claim, Kind};
 pub use costs::{Costs, Places};
 pub use explanation::{Explanation, explain};
 pub use rises::Rises;

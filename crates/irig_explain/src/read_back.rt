@@ -1,36 +1,42 @@
 //! The claims of an explanation, read back from its end.
 
-ghost use Rattle.std.specs.Prelude.{◌≡◌, ◌*◌, IfOk, length};
-ghost use Rattle.irig_explain.specs.Ends.{IsEnd, IsTable};
-ghost use Rattle.irig_explain.specs.Explanation.{IsExplanation, Price, cost};
+ghost use Rattle.std.specs.Prelude.{◌≡◌, ◌^◌, ◌≤◌, IfOk};
+ghost use Rattle.irig_explain.specs.Ends.{IsEnd};
+ghost use Rattle.irig_explain.specs.Explanation.{IsExplanation, cost};
 ghost use Rattle.irig_explain.specs.Nodes.{AreNodes};
 
-use crate::claim::Claim;
+use crate::claim::{Claim, Kind};
+use crate::costs::Costs;
 use crate::ends::End;
-use crate::nodes::{Node, claim};
+use crate::near::nodes_near;
+use crate::nodes::Node;
 use crate::rises::Rises;
+use crate::ways::cheapest;
 use std::alloc::{AllocError, Global};
 
-/// The claims up to an end, from node to node before it, in the order of their rises.
-pub fn read_back(
+/// The claims up to an end, from node to node before it, in the order of their rises. Nodes do not
+/// keep where they come from, so the cheapest way to each is looked for again.
+pub fn read_back<C: Costs>(
     alloc: Global,
+    costs: &C,
     rises: Rises,
     nodes: &[Node],
     end: End,
 ) -> Result<Vec<Claim>, AllocError>
-    requires table { IsTable rises nodes.now }
-    requires all { length nodes.now ≡ rises.count * 100 }
+    requires table { AreNodes (C.price costs.now) rises rises.count nodes.now }
+    requires few { rises.count ≤ 2 ^ 31 }
     requires end { IsEnd rises nodes.now end }
     ensures possible { IfOk result (λ claims. IsExplanation rises claims.items) }
-    ensures cost { IfOk result (λ claims. (price : Price) → AreNodes price rises nodes.now
-        → cost price rises claims.items ≡ end.cost) }
+    ensures cost { IfOk result (λ claims. cost (C.price costs.now) rises claims.items ≡ end.cost) }
 {
     let mut claims = Vec::new(alloc);
     let mut at = end.last;
     'back: while let Some(number) = at {
-        let node = nodes[number];
-        claims.push(claim(number, node.kind))?;
-        at = node.from;
+        let to = nodes[number].claim(Kind::Next);
+        let near = nodes_near(rises.window, nodes, to.rise);
+        let way = cheapest(costs, rises, nodes, near, to);
+        claims.push(nodes[number].claim(way.kind))?;
+        at = way.from;
     }
     claims.as_mut_slice().reverse();
     Ok(claims)

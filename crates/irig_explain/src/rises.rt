@@ -7,6 +7,8 @@ ghost use Rattle.std.specs.Prelude.{◌≡◌, ◌*◌, ◌^◌, ◌<◌, ◌≤
 pub struct Rises {
     /// How many there are.
     pub count: usize,
+    /// How many elements a claim can name: those of a frame, or of what else is to be told apart.
+    pub states: u32,
     /// From a claim the next one is at most this many rises away.
     pub window: usize,
     /// What a rise costs before the first claim, or after the last.

@@ -7,7 +7,7 @@ ghost use Rattle.irig_explain.specs.Turned.{AreTables};
 ghost use Rattle.irig_explain.specs.declared.claim.Claim.{Claim};
 
 use crate::asked::Asked;
-use crate::bounds::{with_steps, without_step};
+use crate::bounds::without_step;
 use crate::costs::{Costs, Places};
 use crate::explanation::{Explanation, cheapest_of};
 use crate::nodes::{Node, nodes};
@@ -58,7 +58,7 @@ impl<'a, C: Costs + Places> Tables<'a, C> {
             → IsExplanation self.now.rises others
             → x.cost ≤ cost (C.price self.now.costs.now) self.now.rises others) }
     {
-        cheapest_of(alloc, self.rises, self.before.as_slice())
+        cheapest_of(alloc, self.costs, self.rises, self.before.as_slice())
     }
 
     /// The cost below which all explanations give an interval a place.
@@ -77,6 +77,6 @@ impl<'a, C: Costs + Places> Tables<'a, C> {
     {
         let (before, after) = (self.before.as_slice(), self.after.as_slice());
         let best = without_step(self.rises, before, after, asked);
-        with_steps(self.costs, self.rises, before, after, asked, best)
+        self.with_steps(asked, best)
     }
 }

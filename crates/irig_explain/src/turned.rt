@@ -32,7 +32,11 @@ impl<'a, C: Costs> Costs for Turned<'a, C> {
         self.costs.price(before, after)
     }
 
-    fn most(&self) -> u32 {
-        self.costs.most()
+    fn most_to(&self) -> u32 {
+        self.costs.most_from()
+    }
+
+    fn most_from(&self) -> u32 {
+        self.costs.most_to()
     }
 }

@@ -2,14 +2,15 @@
 //! interval a place. Each rise looks like an element. The claims are worked out by hand, the bounds
 //! by `tests/reference/explanations.py`, which has no table of what comes after a claim.
 
-ghost use Rattle.std.specs.Prelude.{Bool, ◌≡◌};
+ghost use Rattle.std.specs.Prelude.{Bool, ◌≡◌, ◌^◌, ◌≤◌};
 ghost use Rattle.irig_part_tests.specs.Looks.{kind_price, look_place, look_price};
 
-use irig_explain::{
-    Asked, Claim, Costs, ELEMENTS, Explanation, Kind, Places, Rises, Tables, explain,
-};
+use irig_explain::{Asked, Claim, Costs, Explanation, Kind, Places, Rises, Tables, explain};
 use std::alloc::{AllocError, Global};
 use std::process::Abort;
+
+/// How many elements are in a frame.
+const ELEMENTS: usize = 100;
 
 /// The elements that rises look like.
 struct Looks {
@@ -44,9 +45,14 @@ impl Costs for Looks {
         8 * between + seen + price_of(to.kind, is_next)
     }
 
-    // Nine rises that are passed over, an unlike one, and the jump.
-    fn most(&self) -> u32 {
-        9 * 8 + 20 + 16
+    // The jump.
+    fn most_to(&self) -> u32 {
+        16
+    }
+
+    // The jump, and a rise that is unlike the one element and like the other.
+    fn most_from(&self) -> u32 {
+        20 + 16
     }
 }
 
@@ -66,6 +72,15 @@ const LOOKS: Looks = Looks {
 /// A step passes over one rise at most. A rise that is no element costs 8.
 const RISES: Rises = Rises {
     count: 10,
+    states: 100,
+    window: 2,
+    skip: 8,
+};
+
+/// The same rises, if there are only eight elements.
+const EIGHT: Rises = Rises {
+    count: 10,
+    states: 8,
     window: 2,
     skip: 8,
 };
@@ -83,6 +98,10 @@ static CLAIMS: [(usize, usize); 9] = [
     (8, 41),
     (9, 42),
 ];
+
+/// The same with eight elements. The four last rises look like none of them, so they are no element
+/// for 8 each.
+static CLAIMS_OF_EIGHT: [(usize, usize); 5] = [(0, 3), (1, 4), (2, 5), (4, 6), (5, 7)];
 
 /// An interval, a place, and the cost below which all explanations give it the place. The cheapest
 /// one costs 24, so a row of 24 says that the cheapest does not.
@@ -115,18 +134,31 @@ fn has(explanation: &Explanation, claims: &[(usize, usize)], cost: u64) -> bool 
     true
 }
 
-/// Whether the cheapest explanation is the same with one table and with both.
-fn is_cheapest(alloc: Global) -> Result<bool, AllocError> {
-    let alone = explain(alloc, &LOOKS, RISES)?;
-    let tables = Tables::build(alloc, &LOOKS, RISES)?;
+/// Whether the cheapest explanation has these claims at this cost, with one table and with both.
+fn is_cheapest(
+    alloc: Global,
+    rises: Rises,
+    claims: &[(usize, usize)],
+    cost: u64,
+) -> Result<bool, AllocError>
+    requires { rises.count ≤ 2 ^ 30 }
+{
+    let alone = explain(alloc, &LOOKS, rises)?;
+    let tables = Tables::build(alloc, &LOOKS, rises)?;
     let both = tables.explain(alloc)?;
-    Ok(has(&alone, &CLAIMS, 24) && has(&both, &CLAIMS, 24))
+    Ok(has(&alone, claims, cost) && has(&both, claims, cost))
 }
 
 // The costs are those of the rows.
 #[test]
 fn the_cheapest_passes_over_noise_and_jumps(rt: HostRuntime) {
-    assert!(&rt; is_cheapest(rt.alloc()) == Ok(true));
+    assert!(&rt; is_cheapest(rt.alloc(), RISES, &CLAIMS, 24) == Ok(true));
+}
+
+// It passes over rise 3, and the four last ones are none: 8 for each.
+#[test]
+fn no_element_beyond_the_states_is_claimed(rt: HostRuntime) {
+    assert!(&rt; is_cheapest(rt.alloc(), EIGHT, &CLAIMS_OF_EIGHT, 40) == Ok(true));
 }
 
 /// Whether the bound of each row is the answer.

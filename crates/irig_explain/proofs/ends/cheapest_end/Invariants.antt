@@ -7,6 +7,6 @@ use Rattle.irig_explain.proofs.ends.cheapest_end.Given as goal
 abbrev pub invariant-loop-number : goal.invariant-loop-number
 invariant-loop-number l = record {
   none : l.best.cost ≤ l.fn.rises.skip * l.fn.rises.count;
-  least : (v : ℕ) (n : Node) → v < l.number → slice_get l.nodes v ≡ Some n → l.best.cost ≤ ending l.fn.rises v n;
+  least : (v : ℕ) (n : Node) → v < l.number → slice_get l.nodes v ≡ Some n → l.best.cost ≤ ending l.fn.rises n;
   backed : MatchOption l.best.last (l.best.cost ≡ l.fn.rises.skip * l.fn.rises.count) (λ v. EndsAt l.fn.rises l.nodes l.best.cost v);
 }

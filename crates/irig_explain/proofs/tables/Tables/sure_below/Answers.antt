@@ -11,33 +11,21 @@ without_step-best-requires-clause-tables g c =
       (turned price c.args.self.now.rises.count, rw c.as_slice-after.ensures.value c.requires.full.after_least),
     )
 
-pub with_steps-requires-clause-tables : goal.with_steps-requires-clause-tables
-with_steps-requires-clause-tables g c =
-    let price = g.C.Costs.price c.args.self.now.costs.now in (
-      (price, rw c.as_slice-before.ensures.value c.requires.full.before_least),
-      (turned price c.args.self.now.rises.count, rw c.as_slice-after.ensures.value c.requires.full.after_least),
-    )
-
 pub returns-clause-sure : goal.returns-clause-sure
 returns-clause-sure g c =
     let price = g.C.Costs.price c.args.self.now.costs.now in let place = g.C.Places.place c.args.self.now.costs.now in
-    let full = c.requires.full in let before = c.args.self.now.before.items in let after = c.args.self.now.after.items in
     let no = rw (c.as_slice-before.ensures.value, c.as_slice-after.ensures.value) at c.without_step-best.ensures in
-    let other = rw (c.as_slice-before.ensures.value, c.as_slice-after.ensures.value) at c.with_steps.ensures.least in
-    placed price place c.args.self.now.rises before after c.args.asked c.with_steps.result c.without_step-best.result
-    full.before_least full.after_least full.before_all full.after_all no c.with_steps.ensures.kept other
+    placed price place c.args.self.now.rises c.args.self.now.before.items c.args.self.now.after.items c.args.asked c.with_steps.result
+    c.without_step-best.result c.requires.full no c.with_steps.ensures.kept c.with_steps.ensures.least
 
 pub returns-clause-exact : goal.returns-clause-exact
 returns-clause-exact g c =
     let price = g.C.Costs.price c.args.self.now.costs.now in let place = g.C.Places.place c.args.self.now.costs.now in
     let rises = c.args.self.now.rises in let a = c.args.asked in
-    let full = c.requires.full in let before = c.args.self.now.before.items in let after = c.args.self.now.after.items in
+    let before = c.args.self.now.before.items in let after = c.args.self.now.after.items in
     let alone = rw (c.as_slice-before.ensures.value, c.as_slice-after.ensures.value) at c.without_step-best.ensures in
-    let best = other_without price place rises before after a c.without_step-best.result
-    full.before_least full.after_least full.before_all full.after_all alone.origin in
-    let origin = rw (c.as_slice-before.ensures.value, c.as_slice-after.ensures.value) at c.with_steps.ensures.origin in
-    elim origin [
+    let best = other_without price place rises before after a c.without_step-best.result c.requires.full c.requires.there alone.origin in
+    elim c.with_steps.ensures.origin [
       | inl same ↦ subst (IsOther price place rises a) (sym same) best
-      | inr over ↦ other_over price place rises before after a c.with_steps.result
-          full.before_least full.after_least full.before_all full.after_all over
+      | inr over ↦ other_over price place rises before after a c.with_steps.result c.requires.full over
     ]

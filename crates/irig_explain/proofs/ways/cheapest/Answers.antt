@@ -1,0 +1,38 @@
+use Rattle.std.proofs.Common.{◌<◌, length, get_or, arith}
+use Rattle.std.proofs.lemmas.Option.{slice_get-get_or}
+use Rattle.irig_explain.proofs.{Members.at_contains, Members.no_node, LeastWays.steps_more, LeastWays.backed_more}
+use Rattle.irig_explain.proofs.ways.cheapest.Goals as goal
+
+pub loop-from-init : goal.loop-from-init
+loop-from-init g c = record {
+  first = omega (arith, c.skipped.ensures.exact);
+  steps = λ u m k lt at w. let near = c.requires.near.all u m at w.later w.near in absurd (omega (arith, near.0));
+  backed = c.skipped.ensures.exact;
+}
+
+pub loop-from-preserved : goal.loop-from-preserved
+loop-from-preserved g c =
+    let i = c.loop-from.from in let nodes = c.args.nodes.now in
+    let lt : i < length nodes = let end = c.requires.near.below in omega arith in
+    let at = slice_get-get_or nodes i no_node lt in
+    record {
+      first = omega (arith, c.offer-best.ensures.kept, c.loop-from.invariant.first);
+      steps = steps_more _ c.args.rises nodes i c.args.to c.loop-from.best c.offer-best.result c.loop-from.invariant.steps c.offer-best.ensures;
+      backed = backed_more _ c.args.rises nodes i c.args.to c.loop-from.best c.offer-best.result _ at
+          (record { later = c.requires.near.later i _ at (omega arith); near = c.requires.near.near i _ at (omega arith) })
+          c.loop-from.invariant.backed c.offer-best.ensures;
+    }
+
+pub returns : goal.returns
+returns g c =
+    let nodes = c.args.nodes.now in
+    record {
+      low = record {
+        first = c.loop-from.invariant.first;
+        steps = λ m k there w.
+            let at = at_contains nodes m there in
+            let near = c.requires.near.all at.0 m at.1 w.later w.near in
+            c.loop-from.invariant.steps at.0 m k (omega (arith, near.1)) at.1 w;
+      };
+      backed = c.loop-from.invariant.backed;
+    }
