@@ -3,15 +3,14 @@ use Rattle.std.proofs.Common.{◌≡◌, ◌+◌, ◌-◌, ◌*◌, ◌^◌, ◌
 use Rattle.std.specs.List.{All, Contains, filter}
 use Rattle.std.specs.List.Sorted.{IsNonDecreasingBy}
 use Rattle.std.proofs.Math.Nat.{mul-le-mul_left}
-use Rattle.std.proofs.lemmas.Bool.{cases_lt, le-leb}
+use Rattle.std.proofs.lemmas.Bool.{cases_lt}
 use Rattle.std.proofs.lemmas.List.{get_or_append_left, get_or-append_right}
 use Rattle.std.proofs.lemmas.List.Elements.{All-append, All-contains, All-filter, All-push, All-weaker, Contains-append_cases, Contains-append_left, Contains-append_right, Contains-push}
 use Rattle.irig_explain.specs.declared.{claim.Kind.Kind, rises.Rises.Rises, nodes.Node.Node, ways.Way.Way}
 use Rattle.irig_explain.specs.declared.claim.Kind.TheVariants.{Jump}
 use Rattle.irig_explain.specs.Explanation.{Price}
 use Rattle.irig_explain.specs.Nodes.{AreNodes, ComesFrom, IsCost, IsKnown, IsLeast, IsLow, IsNode, Within, going}
-use Rattle.irig_explain.specs.Rows.{Has, HasCost, IsLeastOf, IsOf, IsRow}
-use Rattle.irig_explain.proofs.Members.{contains_kept, contains_whole}
+use Rattle.irig_explain.specs.Rows.{AreKept, Has, IsBeaten, IsLeastOf, IsOf, IsRow, node_at}
 use Rattle.irig_explain.proofs.LeastWays.{small_cost}
 
 -- what was there stays there
@@ -71,64 +70,46 @@ known_still price rises nodes more r q f from le h = record {
   steps = h.steps;
 }
 
--- a jump costs little more than another step to the same claim
-abbrev pub JumpsTo : Price → ℕ → Type 0
-JumpsTo price most = (r e d q f : ℕ) (k : Kind) → price r e q f Jump ≤ price r d q f k + most
-
--- a limit lies above the least cost, and by what a jump costs more if a cost exceeds it
-pub record IsLimit (most least limit : ℕ) : Type 0 where
-  pub above : least ≤ limit
-  pub far : (cost : ℕ) → cost < 2 ^ 63 → limit < cost → least + most < cost
-
--- the nodes of a row that cost no more than a limit
-abbrev pub kept : ℕ → List Node → List Node
-kept limit row = filter (λ n. leb n.cost limit) row
-
 -- the nodes of a row are of its rise, and so are those that are kept
-row_from : (price : Price) (rises : Rises) (nodes row : List Node) (r limit : ℕ) → IsRow price rises nodes r rises.states row → From r (kept limit row)
-row_from price rises nodes row r limit is = λ m there.
-    let of = All-contains (IsOf price rises nodes r rises.states) row m is.each (contains_whole (λ n. leb n.cost limit) row m there) in
+row_from : (price : Price) (rises : Rises) (nodes row more : List Node) (r best : ℕ) → IsRow price rises nodes r rises.states row
+    → AreKept price row best more → From r more
+row_from price rises nodes row more r best is kept = λ m there.
+    let of = All-contains (IsOf price rises nodes r rises.states) row m is.each (All-contains (Contains row) more m kept.those there) in
     let e = of.rise in omega arith
 
--- a claim whose node is left out: the cheapest one of the row stands for it
-left_out : (price : Price) (rises : Rises) (nodes row : List Node) (r most least limit e : ℕ) (n : Node)
-    → IsRow price rises nodes r rises.states row → JumpsTo price most → IsLeastOf row least → IsLimit most least limit
-    → Contains row n → IsCost price rises nodes r e n.cost → n.cost < 2 ^ 63 → limit < n.cost
-    → IsKnown price rises (nodes ++ kept limit row) r e
-left_out price rises nodes row r most least limit e n is jumps low lim there costs small dear =
-    let far = lim.far n.cost small dear in
-    let le = All-contains (λ m. least ≤ m.cost) row n low.low there in
-    elim low.there [
-      | inl none ↦ absurd (omega (arith, none, le, small))
-      | inr best ↦
-          let m = best.node in
-          let of = All-contains (IsOf price rises nodes r rises.states) row m is.each best.there in
-          let cheap : m.cost ≤ limit = omega (arith, best.exact, lim.above) in
-          record {
-            node = m;
-            there = Contains-append_right nodes (kept limit row) m (contains_kept (λ n. leb n.cost limit) row m best.there (le-leb m.cost limit cheap));
-            beside = of.rise;
-            least = n.cost;
-            costs = cost_still price rises nodes (kept limit row) r r e n.cost (row_from price rises nodes row r limit is) (omega arith) costs;
-            cheap = omega (arith, best.exact, le);
-            steps = λ q f k. (
-              Jump,
-              subst (λ x. m.cost + price x m.element q f Jump ≤ n.cost + price r e q f k) (sym of.rise)
-                  (omega (arith, jumps r m.element e q f k, far, best.exact)),
-            );
-          }
-    ]
+-- a claim whose node is left out: the best one of the row stands for it
+left_out : (price : Price) (rises : Rises) (nodes row more : List Node) (r best e : ℕ) (n : Node)
+    → IsRow price rises nodes r rises.states row → AreKept price row best more → best < length row
+    → n.rise ≡ r → n.element ≡ e → IsCost price rises nodes r e n.cost → IsBeaten price (node_at row best) n
+    → IsKnown price rises (nodes ++ more) r e
+left_out price rises nodes row more r best e n is kept lt rise element costs beaten =
+    let m = node_at row best in
+    let there = kept.best_too lt in
+    let of = All-contains (IsOf price rises nodes r rises.states) row m is.each (All-contains (Contains row) more m kept.those there) in
+    record {
+      node = m;
+      there = Contains-append_right nodes more m there;
+      beside = of.rise;
+      least = n.cost;
+      costs = cost_still price rises nodes more r r e n.cost (row_from price rises nodes row more r best is kept) (omega arith) costs;
+      cheap = beaten.cheap;
+      steps = λ q f k. (
+        Jump,
+        subst (λ x. going price m q f Jump ≤ n.cost + price x e q f k) rise
+            (subst (λ x. going price m q f Jump ≤ n.cost + price n.rise x q f k) element (beaten.steps q f k)),
+      );
+    }
 
 -- one whose node is kept
-kept_itself : (price : Price) (rises : Rises) (nodes row : List Node) (r limit e : ℕ) (n : Node)
-    → IsRow price rises nodes r rises.states row → Contains row n → n.rise ≡ r → n.element ≡ e
-    → IsCost price rises nodes r e n.cost → n.cost ≤ limit → IsKnown price rises (nodes ++ kept limit row) r e
-kept_itself price rises nodes row r limit e n is there rise element costs cheap = record {
+kept_itself : (price : Price) (rises : Rises) (nodes row more : List Node) (r best e : ℕ) (n : Node)
+    → IsRow price rises nodes r rises.states row → AreKept price row best more → Contains more n → n.rise ≡ r → n.element ≡ e
+    → IsCost price rises nodes r e n.cost → IsKnown price rises (nodes ++ more) r e
+kept_itself price rises nodes row more r best e n is kept there rise element costs = record {
   node = n;
-  there = Contains-append_right nodes (kept limit row) n (contains_kept (λ n. leb n.cost limit) row n there (le-leb n.cost limit cheap));
+  there = Contains-append_right nodes more n there;
   beside = rise;
   least = n.cost;
-  costs = cost_still price rises nodes (kept limit row) r r e n.cost (row_from price rises nodes row r limit is) (omega arith) costs;
+  costs = cost_still price rises nodes more r r e n.cost (row_from price rises nodes row more r best is kept) (omega arith) costs;
   cheap = omega arith;
   steps = λ q f k. (
     k,
@@ -137,18 +118,17 @@ kept_itself price rises nodes row r limit e n is there rise element costs cheap 
   );
 }
 
-known_new : (price : Price) (rises : Rises) (nodes row : List Node) (r most least limit e : ℕ)
-    → IsRow price rises nodes r rises.states row → JumpsTo price most → IsLeastOf row least → IsLimit most least limit
-    → r < 2 ^ 31 → rises.skip < 2 ^ 32 → e < rises.states → IsKnown price rises (nodes ++ kept limit row) r e
-known_new price rises nodes row r most least limit e is jumps low lim few fits lt =
+known_new : (price : Price) (rises : Rises) (nodes row more : List Node) (r best e : ℕ)
+    → IsRow price rises nodes r rises.states row → IsLeastOf row best → AreKept price row best more → e < rises.states
+    → IsKnown price rises (nodes ++ more) r e
+known_new price rises nodes row more r best e is least kept lt =
     let has = is.all e lt in let n = has.node in
     let of = All-contains (IsOf price rises nodes r rises.states) row n is.each has.there in
-    let first : n.cost ≤ rises.skip * r = omega (arith, of.costs.is.low.first, of.costs.exact) in
     let costs = subst (λ x. IsCost price rises nodes r x n.cost) has.element of.costs in
-    elim (cases_lt limit n.cost) [
-      | inl dear ↦ left_out price rises nodes row r most least limit e n is jumps low lim has.there costs
-          (small_cost rises.skip r n.cost fits few first) dear
-      | inr cheap ↦ kept_itself price rises nodes row r limit e n is has.there of.rise has.element costs cheap
+    let here : 0 < length row = let k = has.there.0 in let in_it = has.there.1 in omega arith in
+    elim (kept.others n has.there) [
+      | inl there ↦ kept_itself price rises nodes row more r best e n is kept there of.rise has.element costs
+      | inr beaten ↦ left_out price rises nodes row more r best e n is kept (least.there here) of.rise has.element costs beaten
     ]
 
 -- the nodes of later rises come later
@@ -174,18 +154,19 @@ sorted_more xs ys r sorted below at = λ i j d le lt.
     ]
 
 -- the table with one more rise
-pub nodes_more : (price : Price) (rises : Rises) (nodes row : List Node) (r most least limit : ℕ) → AreNodes price rises r nodes
-    → IsRow price rises nodes r rises.states row → JumpsTo price most → IsLeastOf row least → IsLimit most least limit
-    → r < 2 ^ 31 → rises.skip < 2 ^ 32 → AreNodes price rises (r + 1) (nodes ++ kept limit row)
-nodes_more price rises nodes row r most least limit are is jumps low lim few fits =
-    let more = kept limit row in let new = nodes ++ more in
-    let from = row_from price rises nodes row r limit is in
-    let of = All-filter (λ n. leb n.cost limit) (IsOf price rises nodes r rises.states) row is.each in record {
+pub nodes_more : (price : Price) (rises : Rises) (nodes row more : List Node) (r best : ℕ) → AreNodes price rises r nodes
+    → IsRow price rises nodes r rises.states row → IsLeastOf row best → AreKept price row best more
+    → AreNodes price rises (r + 1) (nodes ++ more)
+nodes_more price rises nodes row more r best are is least kept =
+    let new = nodes ++ more in
+    let from = row_from price rises nodes row more r best is kept in
+    let of = All-weaker (Contains row) (IsOf price rises nodes r rises.states)
+    (λ n there. All-contains (IsOf price rises nodes r rises.states) row n is.each there) more kept.those in record {
       known = λ q e lt small.
           elim (cases_lt q r) [
             | inl before ↦ known_still price rises nodes more r q e from (omega arith) (are.known q e before small)
             | inr here ↦ subst (λ x. IsKnown price rises new x e) (let same : r ≡ q = omega arith in same)
-                (known_new price rises nodes row r most least limit e is jumps low lim few fits small)
+                (known_new price rises nodes row more r best e is least kept small)
           ];
       each = All-append (IsNode price rises (r + 1) new) nodes more
           (All-weaker (IsNode price rises r nodes) (IsNode price rises (r + 1) new) (λ n h. let lt = h.rise in record {

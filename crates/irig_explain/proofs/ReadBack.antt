@@ -15,7 +15,8 @@ abbrev pub claim_as : Node → Kind → Claim
 claim_as n k = record { rise = n.rise; element = n.element; kind = k }
 
 -- the kind of the first claim says nothing of the claims after it
-pub any_kind : (rises : Rises) (c : Claim) (k : Kind) (cs : List Claim) → AreClaims rises c cs → AreClaims rises (record { rise = c.rise; element = c.element; kind = k }) cs
+pub any_kind : (rises : Rises) (c : Claim) (k : Kind) (cs : List Claim) → AreClaims rises c cs
+    → AreClaims rises (record { rise = c.rise; element = c.element; kind = k }) cs
 any_kind rises c k [] h = h
 any_kind rises c k (d ∷ ds) h = h
 
@@ -73,7 +74,8 @@ read_more price rises nodes cs total v n w are at least follow =
     let possible = subst (λ x. AreClaims rises (claim_of x) (reverse cs)) same follow.possible in
     let exact = subst (λ x. x.cost + cost_after price rises (claim_of x) (reverse cs) ≡ total) same follow.exact in
     subst (λ xs. IsEnding price rises nodes xs total w.from) (sym (reversed cs (claim_as n w.kind)))
-    (step_back price rises nodes n (reverse cs) total w w.from is are.each possible exact (same_least price rises nodes n.rise n.element n.cost w least is.costs) least.backed)
+    (step_back price rises nodes n (reverse cs) total w w.from is are.each possible exact
+    (same_least price rises nodes n.rise n.element n.cost w least is.costs) least.backed)
 
 -- nodes come from those of earlier rises
 pub left_smaller : (price : Price) (rises : Rises) (nodes : List Node) (v : ℕ) (n : Node) (w : Way) (from : Option ℕ) → slice_get nodes v ≡ Some n

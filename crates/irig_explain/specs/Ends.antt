@@ -28,8 +28,8 @@ pub record IsEnd (rises : Rises) (nodes : List Node) (e : End) : Type 0 where
       (λ v. EndsAt rises nodes e.cost v)
 
 -- claims can follow a node, and all of it costs that
-pub record Follow (price : Price) (rises : Rises) (nodes : List Node) (cs : List Claim) (total v : ℕ)
-    : Type 0 where
+pub record Follow (price : Price) (rises : Rises) (nodes : List Node) (cs : List Claim)
+    (total v : ℕ) : Type 0 where
   pub node : Node
   pub at : slice_get nodes v ≡ Some node
   pub possible : AreClaims rises (claim_of node) cs

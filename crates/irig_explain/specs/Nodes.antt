@@ -53,8 +53,8 @@ pub record IsNode (price : Price) (rises : Rises) (done : ℕ) (nodes : List Nod
   pub element : n.element < rises.states
   pub costs : IsCost price rises nodes n.rise n.element n.cost
 
--- a node stands for a claim: it is of its rise, costs no more, and no step from the claim is cheaper
--- than one from the node, of some kind
+-- a node stands for a claim: it is of its rise, costs no more, and no step from the claim is
+-- cheaper than one from the node, of some kind
 pub record IsKnown (price : Price) (rises : Rises) (nodes : List Node) (r e : ℕ) : Type 0 where
   pub node : Node
   pub there : Contains nodes node

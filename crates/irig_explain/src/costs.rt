@@ -15,16 +15,16 @@ pub trait Costs {
     fn price(&self, from: Claim, to: Claim) -> u32
         ensures { result ≡ price self.now from.rise from.element to.rise to.element to.kind };
 
-    /// How much more a jump costs, at most, than any step between the same rises to the same
-    /// element. The less this is, the fewer claims have nodes.
-    fn most_to(&self) -> u32
-        ensures { (r e d q f : ℕ) (k : Kind)
-            → price self.now r e q f Jump ≤ price self.now r d q f k + result };
+    /// How much more a jump from the claim that a rise is one element costs, at most, than any step
+    /// to the same claim from the claim that it is another. The less this is, the fewer nodes.
+    fn most_from(&self, rise: usize, this: usize, other: usize) -> u32
+        ensures { (q f : ℕ) (k : Kind)
+            → price self.now rise this q f Jump ≤ price self.now rise other q f k + result };
 
-    /// The same of steps from the same element.
-    fn most_from(&self) -> u32
-        ensures { (r e q f g : ℕ) (k : Kind)
-            → price self.now r e q f Jump ≤ price self.now r e q g k + result };
+    /// The same of a jump to a claim, and any step to the other one from the same claim.
+    fn most_to(&self, rise: usize, this: usize, other: usize) -> u32
+        ensures { (r e : ℕ) (k : Kind)
+            → price self.now r e rise this Jump ≤ price self.now r e rise other k + result };
 }
 
 /// The place that a step gives to each interval between rises that it goes over. `place` takes what

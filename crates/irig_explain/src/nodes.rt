@@ -1,9 +1,9 @@
 //! The table of nodes: the claims that a cheapest explanation may need, each with the least cost of
 //! all ways to it.
 
-ghost use Rattle.std.specs.Prelude.{◌≡◌, ◌+◌, ◌^◌, ◌++◌, ◌<◌, ◌≤◌, ◌⊎◌, All, Contains, IfOk, OnOk, filter, leb};
-ghost use Rattle.irig_explain.specs.Nodes.{AreNodes, claim_of};
-ghost use Rattle.irig_explain.specs.Rows.{IsLeastOf, IsRow};
+ghost use Rattle.std.specs.Prelude.{◌≡◌, ◌+◌, ◌^◌, ◌<◌, ◌≤◌, ◌⊎◌, All, IfOk, true};
+ghost use Rattle.irig_explain.specs.Nodes.{AreNodes};
+ghost use Rattle.irig_explain.specs.Rows.{AreKept, IsBeaten, IsLeastOf, IsRow};
 
 use crate::claim::{Claim, Kind};
 use crate::costs::Costs;
@@ -26,7 +26,8 @@ pub struct Node {
 impl Node {
     /// The claim of a node.
     pub(crate) fn claim(&self, kind: Kind) -> Claim
-        ensures { result ≡ record { rise = self.now.rise; element = self.now.element; kind = kind } }
+        ensures { result
+            ≡ record { rise = self.now.rise; element = self.now.element; kind = kind } }
     {
         Claim {
             rise: self.rise as usize,
@@ -45,9 +46,9 @@ pub fn nodes<C: Costs>(alloc: Global, costs: &C, rises: Rises) -> Result<Vec<Nod
     let mut nodes = Vec::new(alloc);
     for rise in 0..rises.count {
         let row = row(alloc, costs, rises, nodes.as_slice(), rise)?;
-        let least = least_cost(row.as_slice());
-        let limit = least.saturating_add(u64::from(costs.most_to()));
-        keep(row.as_slice(), limit, &mut nodes)?;
+        let best = least_of(row.as_slice());
+        let kept = kept(alloc, costs, rise, row.as_slice(), best)?;
+        nodes.extend_from_slice(kept.as_slice())?;
     }
     Ok(nodes)
 }
@@ -83,28 +84,50 @@ fn row<C: Costs>(
     Ok(row)
 }
 
-/// The least cost of some nodes; the largest number if there are none.
-fn least_cost(row: &[Node]) -> u64
+/// The number of the cheapest of some nodes; 0 if there are none.
+fn least_of(row: &[Node]) -> usize
     ensures { IsLeastOf row.now result }
 {
-    let mut least = u64::MAX;
+    let mut best = 0;
     for index in 0..row.len() {
-        if row[index].cost < least {
-            least = row[index].cost;
+        if row[index].cost < row[best].cost {
+            best = index;
         }
     }
-    least
+    best
 }
 
-/// Adds those nodes of a row that do not cost more than a limit.
-fn keep(row: &[Node], limit: u64, nodes: &mut Vec<Node>) -> Result<(), AllocError>
-    ensures { OnOk result (nodes.new.items
-        ≡ nodes.old.items ++ filter (λ n. leb n.cost limit) row.now) }
+/// Those nodes of a row that are not beaten by its cheapest one.
+fn kept<C: Costs>(
+    alloc: Global,
+    costs: &C,
+    rise: usize,
+    row: &[Node],
+    best: usize,
+) -> Result<Vec<Node>, AllocError>
+    requires rise { All (λ n. n.rise ≡ rise) row.now }
+    requires best { IsLeastOf row.now best }
+    ensures { IfOk result (λ kept. AreKept (C.price costs.now) row.now best kept.items) }
 {
+    let mut kept = Vec::new(alloc);
     for index in 0..row.len() {
-        if row[index].cost <= limit {
-            nodes.push(row[index])?;
+        if is_needed(costs, rise, row[best], row[index]) {
+            kept.push(row[index])?;
         }
     }
-    Ok(())
+    Ok(kept)
+}
+
+/// Whether a step from a node can be cheaper than a jump from a cheaper one, or is that one.
+fn is_needed<C: Costs>(costs: &C, rise: usize, best: Node, node: Node) -> bool
+    requires rises { (best.rise ≡ rise) × (node.rise ≡ rise) }
+    requires cheap { best.cost ≤ node.cost }
+    ensures beaten { (result ≡ true) ⊎ IsBeaten (C.price costs.now) best node }
+    ensures itself { node.element ≡ best.element → result ≡ true }
+{
+    if node.element == best.element {
+        return true;
+    }
+    let most = costs.most_from(rise, best.element as usize, node.element as usize);
+    node.cost - best.cost < u64::from(most)
 }

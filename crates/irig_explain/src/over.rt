@@ -106,7 +106,8 @@ impl<'a, C: Costs + Places> Tables<'a, C> {
         requires near { to.rise ≤ rise + self.now.rises.window }
         requires element { to.element < self.now.rises.states }
         requires rest { IsCost (turned (C.price self.now.costs.now) self.now.rises.count)
-            self.now.rises self.now.after.items (self.now.rises.count - 1 - to.rise) to.element rest }
+            self.now.rises self.now.after.items (self.now.rises.count - 1 - to.rise) to.element
+            rest }
         requires small { rest < 2 ^ 62 }
         ensures kept { result ≤ best }
         ensures least { Elsewhere (C.price self.now.costs.now) (C.place self.now.costs.now)

@@ -32,11 +32,13 @@ impl<'a, C: Costs> Costs for Turned<'a, C> {
         self.costs.price(before, after)
     }
 
-    fn most_to(&self) -> u32 {
-        self.costs.most_from()
+    fn most_from(&self, rise: usize, this: usize, other: usize) -> u32 {
+        let last = self.count.saturating_sub(1);
+        self.costs.most_to(last.saturating_sub(rise), this, other)
     }
 
-    fn most_from(&self) -> u32 {
-        self.costs.most_to()
+    fn most_to(&self, rise: usize, this: usize, other: usize) -> u32 {
+        let last = self.count.saturating_sub(1);
+        self.costs.most_from(last.saturating_sub(rise), this, other)
     }
 }

@@ -46,12 +46,12 @@ impl Costs for Looks {
     }
 
     // The jump.
-    fn most_to(&self) -> u32 {
+    fn most_from(&self, _rise: usize, _this: usize, _other: usize) -> u32 {
         16
     }
 
     // The jump, and a rise that is unlike the one element and like the other.
-    fn most_from(&self) -> u32 {
+    fn most_to(&self, _rise: usize, _this: usize, _other: usize) -> u32 {
         20 + 16
     }
 }

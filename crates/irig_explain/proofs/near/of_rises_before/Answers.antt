@@ -18,7 +18,8 @@ returns c =
     (IsPartitionedBy-ltb (λ n. n.rise) xs q c.requires) in
     record {
       below = c.partition_point.ensures.bound;
-      before = λ u m at lt. ltb_below m.rise q (subst (λ (x : Node). ltb x.rise q ≡ true) (get_or_from_slice_get xs u m no_node at) (point.0 u no_node (omega arith) lt));
+      before = λ u m at lt. ltb_below m.rise q
+          (subst (λ (x : Node). ltb x.rise q ≡ true) (get_or_from_slice_get xs u m no_node at) (point.0 u no_node (omega arith) lt));
       after = λ u m at le. ltb_not m.rise q
           (subst (λ (x : Node). ltb x.rise q ≡ false) (get_or_from_slice_get xs u m no_node at) (point.1 u no_node le (slice_get_within xs u m at)));
     }

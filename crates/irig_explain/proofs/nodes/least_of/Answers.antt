@@ -1,12 +1,12 @@
-use Rattle.std.proofs.Common.{◌≡◌, ◌+◌, ◌-◌, ◌^◌, ◌<◌, ◌≤◌, ◌⊎◌, ℕ, List, length, get_or, take, refl, subst, sym, inl, inr, arith}
+use Rattle.std.proofs.Common.{◌≡◌, ◌+◌, ◌<◌, ◌≤◌, ℕ, List, length, get_or, take, refl, subst, sym, arith}
 use Rattle.std.specs.List.{All}
-use Rattle.std.proofs.lemmas.List.Elements.{All-more, All-same, All-weaker, Contains-get_or}
+use Rattle.std.proofs.lemmas.List.Elements.{All-more, All-same, All-weaker}
 use Rattle.std.proofs.lemmas.List.{take_all}
 use Rattle.irig_explain.specs.declared.nodes.Node.{Node}
-use Rattle.irig_explain.specs.Rows.{HasCost}
+use Rattle.irig_explain.specs.Rows.{node_at}
 use Rattle.irig_explain.proofs.Members.{no_node}
-use Rattle.irig_explain.proofs.nodes.least_cost.Goals as goal
-use Rattle.irig_explain.proofs.nodes.least_cost.Goals.{then-row-index, else-row-index}
+use Rattle.irig_explain.proofs.nodes.least_of.Goals as goal
+use Rattle.irig_explain.proofs.nodes.least_of.Goals.{then-row-index, else-row-index}
 
 -- what is no less than the least so far is no less than a lower one
 lower : (xs : List Node) (i least new : ℕ) → i < length xs → new ≤ least → new ≤ (get_or xs i no_node).cost
@@ -17,26 +17,26 @@ lower xs i least new lt le here so_far =
 
 pub loop-index-preserved : goal.loop-index-preserved
 loop-index-preserved c =
-    let xs = c.args.row.now in let i = c.loop-index.index in let least = c.loop-index.least in
+    let xs = c.args.row.now in let i = c.loop-index.index in let least = (node_at xs c.loop-index.best).cost in
     let lt : i < length xs = omega arith in
     elim c.if-row-index.branch [
       | then-row-index w ↦
           let less = w.if-row-index.true in
-          rw w.least-is (record {
+          rw w.best-is (record {
+            there = λ _. lt;
             low = lower xs i least (get_or xs i no_node).cost lt (omega (arith, less)) (omega arith) c.loop-index.invariant.low;
-            there = inr (record { node = get_or xs i no_node; there = Contains-get_or xs i no_node lt; exact = refl });
           })
       | else-row-index w ↦
           let more = w.if-row-index.false in
-          rw w.least-is (record {
-            low = lower xs i least least lt (omega arith) (omega (arith, more)) c.loop-index.invariant.low;
+          rw w.best-is (record {
             there = c.loop-index.invariant.there;
+            low = lower xs i least least lt (omega arith) (omega (arith, more)) c.loop-index.invariant.low;
           })
     ]
 
 pub returns : goal.returns
 returns c =
-    let xs = c.args.row.now in let end = c.loop-index-test.false in record {
-      low = All-same (λ n. c.loop-index.least ≤ n.cost) xs (take c.loop-index.index xs) (sym (take_all c.loop-index.index xs (omega arith))) c.loop-index.invariant.low;
+    let xs = c.args.row.now in let end = c.loop-index-test.false in let least = (node_at xs c.loop-index.best).cost in record {
       there = c.loop-index.invariant.there;
+      low = All-same (λ n. least ≤ n.cost) xs (take c.loop-index.index xs) (sym (take_all c.loop-index.index xs (omega arith))) c.loop-index.invariant.low;
     }
