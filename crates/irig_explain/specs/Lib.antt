@@ -8,3 +8,4 @@ pub mod Sure
 pub mod Turned
 pub mod Bounds
 pub mod Ways
+pub mod Middles

@@ -4,6 +4,7 @@
 mod asked;
 mod bounds;
 mod claim;
+mod clock;
 mod costs;
 mod ends;
 mod explanation;
@@ -18,6 +19,7 @@ mod ways;
 
 pub use asked::Asked;
 pub use claim::{Claim, Kind};
+pub use clock::middles;
 pub use costs::{Costs, Places};
 pub use explanation::{Explanation, explain};
 pub use rises::Rises;

@@ -18,6 +18,8 @@ mod journal_texts;
 #[cfg(test)]
 mod journals;
 #[cfg(test)]
+mod middles;
+#[cfg(test)]
 mod moments;
 mod stack;
 #[cfg(test)]
