@@ -1,6 +1,6 @@
 -- The least cost of a step that gives an interval another place, as loops find it.
-use Rattle.std.proofs.Common.{◌≡◌, ◌+◌, ◌-◌, ◌<◌, ◌≤◌, ◌⊎◌, ℕ, List, sym, subst, inl, inr, arith, refl}
-use Rattle.irig_explain.specs.declared.{asked.Asked.Asked, claim.Kind.Kind, rises.Rises.Rises, nodes.Node.Node}
+use Rattle.std.proofs.Common.{◌≡◌, ◌+◌, ◌-◌, ◌≤◌, ◌⊎◌, ℕ, List, sym, subst, inl, inr, arith}
+use Rattle.irig_explain.specs.declared.{asked.Asked.Asked, rises.Rises.Rises, nodes.Node.Node}
 use Rattle.irig_explain.specs.Bounds.{Elsewhere, ElsewhereBetween, IsOver, Steps}
 use Rattle.irig_explain.specs.{Explanation.Price, Nodes.IsCost, Turned.turned, Ways.OtherKind, Ways.OtherWay}
 use Rattle.irig_explain.proofs.ReadBack.{below_cost}

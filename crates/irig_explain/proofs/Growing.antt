@@ -1,15 +1,15 @@
 -- A table of nodes as it grows.
-use Rattle.std.proofs.Common.{◌≡◌, ◌+◌, ◌-◌, ◌*◌, ◌^◌, ◌<◌, ◌≤◌, ◌⊎◌, ◌++◌, ◌∙◌, ℕ, zero, suc, Bool, true, false, List, [], ◌∷◌, length, get_or, MatchOption, slice_get, Option, Some, None, ap, sym, subst, inl, inr, arith, refl, leb, length-append, below_more}
-use Rattle.std.specs.List.{All, Contains, filter}
+use Rattle.std.proofs.Common.{◌≡◌, ◌+◌, ◌-◌, ◌*◌, ◌^◌, ◌<◌, ◌≤◌, ◌++◌, ℕ, zero, suc, List, [], ◌∷◌, length, MatchOption, slice_get, Option, Some, None, sym, subst, inl, inr, arith, refl, length-append, below_more}
+use Rattle.std.specs.List.{All, Contains}
 use Rattle.std.specs.List.Sorted.{IsNonDecreasingBy}
 use Rattle.std.proofs.Math.Nat.{mul-le-mul_left}
 use Rattle.std.proofs.lemmas.Bool.{cases_lt}
 use Rattle.std.proofs.lemmas.List.{get_or_append_left, get_or-append_right}
-use Rattle.std.proofs.lemmas.List.Elements.{All-append, All-contains, All-filter, All-push, All-weaker, Contains-append_cases, Contains-append_left, Contains-append_right, Contains-push}
-use Rattle.irig_explain.specs.declared.{claim.Kind.Kind, rises.Rises.Rises, nodes.Node.Node, ways.Way.Way}
+use Rattle.std.proofs.lemmas.List.Elements.{All-append, All-contains, All-push, All-weaker, Contains-append_cases, Contains-append_left, Contains-append_right, Contains-push}
+use Rattle.irig_explain.specs.declared.{rises.Rises.Rises, nodes.Node.Node, ways.Way.Way}
 use Rattle.irig_explain.specs.declared.claim.Kind.TheVariants.{Jump}
 use Rattle.irig_explain.specs.Explanation.{Price}
-use Rattle.irig_explain.specs.Nodes.{AreNodes, ComesFrom, IsCost, IsKnown, IsLeast, IsLow, IsNode, Within, going}
+use Rattle.irig_explain.specs.Nodes.{AreNodes, ComesFrom, IsCost, IsKnown, IsLeast, IsLow, IsNode, going}
 use Rattle.irig_explain.specs.Rows.{AreKept, Has, IsBeaten, IsLeastOf, IsOf, IsRow, node_at}
 use Rattle.irig_explain.proofs.LeastWays.{small_cost}
 

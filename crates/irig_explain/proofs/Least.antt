@@ -1,10 +1,9 @@
 -- No explanation is cheaper than the cheapest end.
-use Rattle.std.proofs.Common.{◌≡◌, ◌+◌, ◌-◌, ◌*◌, ◌<◌, ◌≤◌, ℕ, List, [], ◌∷◌, subst, arith}
+use Rattle.std.proofs.Common.{◌+◌, ◌-◌, ◌*◌, ◌<◌, ◌≤◌, ℕ, List, [], ◌∷◌, subst, arith}
 use Rattle.irig_explain.specs.declared.{claim.Claim.Claim, claim.Kind.Kind, rises.Rises.Rises, ends.End.End, nodes.Node.Node}
 use Rattle.irig_explain.specs.Ends.{IsEnd}
 use Rattle.irig_explain.specs.Explanation.{Price, IsClaim, AreClaims, IsExplanation, cost, cost_after}
-use Rattle.irig_explain.specs.Nodes.{AreNodes, IsCost, IsKnown, IsLow, Within, going}
-use Rattle.irig_explain.proofs.ReadBack.{below_cost}
+use Rattle.irig_explain.specs.Nodes.{AreNodes, IsKnown, IsLow, Within}
 
 pub first_is : (rises : Rises) (c : Claim) (cs : List Claim) → AreClaims rises c cs → IsClaim rises c
 first_is rises c [] h = h

@@ -1,5 +1,5 @@
 -- The least of the ways to a claim, as a loop finds it.
-use Rattle.std.proofs.Common.{◌≡◌, ◌+◌, ◌*◌, ◌^◌, ◌<◌, ◌≤◌, ℕ, List, length, get_or, MatchOption, slice_get, Some, ap, sym, subst, inl, inr, arith, below_more}
+use Rattle.std.proofs.Common.{◌≡◌, ◌+◌, ◌*◌, ◌^◌, ◌<◌, ◌≤◌, ℕ, List, get_or, MatchOption, slice_get, Some, sym, subst, inl, inr, arith, below_more}
 use Rattle.std.proofs.Math.Nat.{mul-le-mul_left}
 use Rattle.std.proofs.lemmas.Option.{get_or_from_slice_get}
 use Rattle.irig_explain.specs.declared.{claim.Claim.Claim, claim.Kind.Kind, rises.Rises.Rises, nodes.Node.Node, ways.Way.Way}

@@ -1,5 +1,5 @@
 -- What all cheap explanations say of an interval.
-use Rattle.std.proofs.Common.{◌≡◌, ◌+◌, ◌-◌, ◌*◌, ◌<◌, ◌≤◌, ◌⊎◌, ℕ, List, [], ◌∷◌, sym, subst, inl, inr, arith, refl}
+use Rattle.std.proofs.Common.{◌≡◌, ◌+◌, ◌-◌, ◌*◌, ◌<◌, ◌≤◌, ◌⊎◌, ℕ, List, [], ◌∷◌, subst, inl, inr, arith, refl}
 use Rattle.std.proofs.lemmas.{Bool.cases_lt, Bool.cases_eq}
 use Rattle.irig_explain.specs.declared.{claim.Claim.Claim, rises.Rises.Rises, nodes.Node.Node, asked.Asked.Asked}
 use Rattle.irig_explain.specs.Explanation.{Price, AreClaims, IsExplanation, cost, cost_after}

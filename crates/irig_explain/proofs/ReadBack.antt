@@ -1,11 +1,11 @@
 -- Claims that are read back from a node.
-use Rattle.std.proofs.Common.{◌≡◌, ◌+◌, ◌*◌, ◌<◌, ◌≤◌, ◌++◌, ◌∙◌, ℕ, List, [], ◌∷◌, reverse, MatchOption, slice_get, Option, Some, None, ap, sym, subst, arith, refl}
+use Rattle.std.proofs.Common.{◌≡◌, ◌+◌, ◌*◌, ◌<◌, ◌≤◌, ◌++◌, ℕ, List, [], ◌∷◌, reverse, MatchOption, slice_get, Option, Some, None, ap, sym, subst, arith, refl}
 use Rattle.std.specs.List.{All}
 use Rattle.std.proofs.lemmas.List.{reverse-append}
 use Rattle.std.proofs.lemmas.List.Elements.{All-contains}
 use Rattle.std.proofs.lemmas.Option.{get_or_from_slice_get}
 use Rattle.irig_explain.specs.declared.{claim.Claim.Claim, claim.Kind.Kind, rises.Rises.Rises, ends.End.End, nodes.Node.Node, ways.Way.Way}
-use Rattle.irig_explain.specs.Ends.{EndsAt, Follow, IsEnding, ending, rises_left}
+use Rattle.irig_explain.specs.Ends.{EndsAt, Follow, IsEnding, rises_left}
 use Rattle.irig_explain.specs.Explanation.{Price, AreClaims, cost_after}
 use Rattle.irig_explain.specs.Nodes.{AreNodes, ComesFrom, IsCost, IsLeast, IsLow, IsNode, claim_of}
 use Rattle.irig_explain.proofs.Members.{contains_at, no_node}

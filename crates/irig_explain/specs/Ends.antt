@@ -1,5 +1,5 @@
 -- The cheapest end of an explanation, and the claims read back from it. This project's own.
-use Rattle.std.specs.Prelude.{ℕ, ◌≡◌, ◌+◌, ◌-◌, ◌*◌, ◌<◌, ◌≤◌, Contains, List, Option, Some, None}
+use Rattle.std.specs.Prelude.{ℕ, ◌≡◌, ◌+◌, ◌-◌, ◌*◌, ◌≤◌, Contains, List, Option, Some, None}
 use Rattle.std.specs.Prelude.{MatchOption, slice_get, slice_index_or}
 use Rattle.irig_explain.specs.declared.{claim.Claim.Claim, rises.Rises.Rises, ends.End.End}
 use Rattle.irig_explain.specs.declared.nodes.Node.{Node}

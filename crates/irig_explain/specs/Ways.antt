@@ -1,5 +1,5 @@
 -- What steps cost that give an interval another place. This project's own.
-use Rattle.std.specs.Prelude.{ℕ, ◌≡◌, ◌+◌, ◌-◌, ◌<◌, ◌≤◌, List}
+use Rattle.std.specs.Prelude.{ℕ, ◌≡◌, ◌+◌, ◌-◌, List}
 use Rattle.irig_explain.specs.declared.{asked.Asked.Asked, claim.Kind.Kind, rises.Rises.Rises}
 use Rattle.irig_explain.specs.declared.nodes.Node.{Node}
 use Rattle.irig_explain.specs.{Bounds.IsOver, Explanation.Price, Nodes.IsCost, Turned.turned}

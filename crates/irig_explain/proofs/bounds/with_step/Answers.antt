@@ -1,4 +1,4 @@
-use Rattle.std.proofs.Common.{◌≡◌, ◌⊎◌, ◌+◌, ◌≤◌, ℕ, sym, subst, inl, inr, arith}
+use Rattle.std.proofs.Common.{◌≡◌, ◌⊎◌, ℕ, sym, subst, inl, inr, arith}
 use Rattle.irig_explain.specs.declared.{claim.Kind.TheVariants.Next, claim.Kind.TheVariants.Step, claim.Kind.TheVariants.Jump}
 use Rattle.irig_explain.specs.Ways.{OtherKind}
 use Rattle.irig_explain.proofs.bounds.with_step.Goals as goal

@@ -1,5 +1,5 @@
-use Rattle.std.proofs.Common.{◌≡◌, ◌⊎◌, ◌+◌, ◌<◌, ◌≤◌, sym, subst, inl, inr, arith}
-use Rattle.irig_explain.specs.{Bounds.EndsBelow, Ends.ending}
+use Rattle.std.proofs.Common.{◌+◌, sym, subst, inl, inr, arith}
+use Rattle.irig_explain.specs.{Bounds.EndsBelow}
 use Rattle.irig_explain.proofs.bounds.without_step.Goals as goal
 
 pub returns : goal.returns

@@ -1,4 +1,4 @@
-use Rattle.std.proofs.Common.{◌≡◌, ◌+◌, ◌<◌, ◌++◌, ℕ, [], ◌∷◌, length, get_or, ap, sym, subst, arith, below_more, length-append}
+use Rattle.std.proofs.Common.{◌++◌, ℕ, [], ◌∷◌, get_or, sym, subst, arith, below_more, length-append}
 use Rattle.std.proofs.lemmas.List.{get_or_append_left, get_or_push}
 use Rattle.irig_explain.specs.Middles.{IsMiddle, around}
 use Rattle.irig_explain.proofs.clock.middles.Goals as goal

@@ -1,7 +1,7 @@
-use Rattle.std.proofs.Common.{◌≡◌, ◌+◌, ◌^◌, ◌<◌, length, get_or, arith, refl}
+use Rattle.std.proofs.Common.{◌≡◌, ◌+◌, ◌<◌, length, get_or, arith, refl}
 use Rattle.std.proofs.lemmas.Option.{slice_get_within}
 use Rattle.irig_explain.proofs.{Members.at_contains, Members.no_node}
-use Rattle.irig_explain.proofs.EndsSoFar.{in_table, end_small, least_end, backed_end}
+use Rattle.irig_explain.proofs.EndsSoFar.{least_end, backed_end}
 use Rattle.irig_explain.specs.Ends.{ending}
 use Rattle.irig_explain.proofs.ends.cheapest_end.Goals as goal
 

@@ -1,5 +1,5 @@
-use Rattle.std.proofs.Common.{rules, of_calls, ltb, ℕ, subst, ◌≡◌, ◌<◌, ◌≤◌, true, false, arith, slice_get}
-use Rattle.std.proofs.lemmas.List.Sorted.{IsPartitionedBy-ltb, IsPartitionPoint-from_clause}
+use Rattle.std.proofs.Common.{rules, of_calls, ltb, ℕ, subst, ◌≡◌, ◌<◌, ◌≤◌, true, false, arith}
+use Rattle.std.proofs.lemmas.List.Sorted.{IsPartitionedBy-ltb}
 use Rattle.std.proofs.lemmas.{Option.get_or_from_slice_get, Option.slice_get_within, Fn.always_returns_same}
 use Rattle.irig_explain.specs.declared.nodes.Node.{Node}
 use Rattle.irig_explain.proofs.Members.{no_node}

@@ -1,4 +1,4 @@
-use Rattle.std.proofs.Common.{◌<◌, length, get_or, arith}
+use Rattle.std.proofs.Common.{◌<◌, length, arith}
 use Rattle.std.proofs.lemmas.Option.{slice_get-get_or}
 use Rattle.irig_explain.proofs.{Members.at_contains, Members.no_node, LeastWays.steps_more, LeastWays.backed_more}
 use Rattle.irig_explain.proofs.ways.cheapest.Goals as goal

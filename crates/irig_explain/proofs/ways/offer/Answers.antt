@@ -1,4 +1,4 @@
-use Rattle.std.proofs.Common.{◌≡◌, ◌+◌, ◌≤◌, ◌⊎◌, ◌∙◌, Some, ap, sym, subst, inl, inr, arith}
+use Rattle.std.proofs.Common.{◌≡◌, ◌⊎◌, ◌∙◌, Some, ap, sym, subst, inl, inr, arith}
 use Rattle.irig_explain.specs.declared.{claim.Kind.TheVariants.Next, claim.Kind.TheVariants.Step, claim.Kind.TheVariants.Jump, ways.Way.Way}
 use Rattle.irig_explain.specs.Nodes.{going}
 use Rattle.irig_explain.proofs.ways.offer.Goals as goal

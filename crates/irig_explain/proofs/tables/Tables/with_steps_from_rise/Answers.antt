@@ -1,4 +1,4 @@
-use Rattle.std.proofs.Common.{refl, ◌≡◌, ◌⊎◌, ◌+◌, ◌-◌, ◌<◌, ◌≤◌, ℕ, sym, subst, inl, inr, arith}
+use Rattle.std.proofs.Common.{refl, ◌≡◌, ◌⊎◌, ◌+◌, ◌<◌, ℕ, sym, subst, inl, inr, arith}
 use Rattle.std.proofs.lemmas.Bool.{cases_lt}
 use Rattle.irig_explain.specs.{Bounds.IsOver, Ways.OtherWay}
 use Rattle.irig_explain.proofs.Elsewhere.{elsewhere_none, elsewhere_more, elsewhere_all, elsewhere_between, other_between}
