@@ -153,7 +153,7 @@ module _ (f : FormatView) (ps : List Pulse) (slack : ℕ) (p : Frame) (last : �
       ]
 
 -- the elements that carry the time are of one frame
-time-few : (f : FormatView) → time_elements f.kind ≤ 100
+pub time-few : (f : FormatView) → time_elements f.kind ≤ 100
 time-few f = by-kind f.kind
   where
     by-kind : (kind : Kind) → time_elements kind ≤ 100
@@ -182,7 +182,7 @@ module _ (f : FormatView) (ps : List Pulse) (a b : Frame) (moment name : ℕ →
       let n = named-element f a s x h in
       let is = sent-after f ps (slack_of ps a b) a (b.marker - a.marker) moment name q.sent_on k n.0 low (omega (arith, less, low)) n.1 in
       let marker = q.shown.marker in
-      let top = (q.inside k low (omega (arith, less))).1 in
+      let top = q.below k n.0 low (omega (arith, less)) n.1 in
       after f sent a q.frame (name k) n.0 x q.shown.time (λ more i j one two three. q.counts i j one two (omega (arith, three, top)))
       (omega (arith, is, marker)) n.2
   by-one (inr h) less =
@@ -190,7 +190,7 @@ module _ (f : FormatView) (ps : List Pulse) (a b : Frame) (moment name : ℕ →
       let is = sent-before f ps (slack_of ps a b) b (b.marker - a.marker) moment name q.sent_back k n.0 (omega (arith, less))
       (omega (arith, less, low)) n.1 in
       let marker = q.shown_after.marker in
-      let bottom = (q.inside k low (omega (arith, less))).0 in
+      let bottom = q.above k n.0 low (omega (arith, less)) n.1 in
       before f sent b q.frame_after (name k) n.0 x q.shown_after.time (λ i j one two three. q.counts i j (omega (arith, one, bottom)) two three)
       (omega (arith, is, marker)) n.2
 

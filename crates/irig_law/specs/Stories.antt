@@ -5,12 +5,14 @@ use Rattle.irig_codes.specs.Format.{FormatView}
 use Rattle.irig_codes.specs.declared.fields.Fields.{Fields}
 use Rattle.irig_recording.specs.declared.pulse.Pulse.{Pulse}
 use Rattle.irig_times.specs.Times.{time_in}
-use Rattle.irig_law.specs.{Clocks.clock_of, Clocks.slack_of}
+use Rattle.irig_law.specs.{Clocks.clock_of, Clocks.slack_of, Denials.seen_after}
+use Rattle.irig_law.specs.Denials.{seen_before}
 use Rattle.irig_law.specs.Printed.{CountsOn, IsShown}
 use Rattle.irig_law.specs.Rows.{rise_in, row_after, row_before, runs_in}
 use Rattle.irig_law.specs.{Sides.Denies, Stretches.first_denials, Stretches.second_denials}
 use Rattle.irig_law.specs.Truth.{Sent}
 use Rattle.irig_law.specs.declared.frame.Frame.{Frame}
+use Rattle.irig_law.specs.declared.names.Seen.TheVariants.{Named}
 
 -- Of the pulses after a frame's marker those with a name were sent. `name` is the number of the
 -- element that was sent when each pulse of the recording rose, `moment` when each element rises.
@@ -39,8 +41,10 @@ pub record Quiet (f : FormatView) (ps : List Pulse) (a b : Frame) (moment name :
   pub sent_on : SentAfter f ps (slack_of ps a b) a (b.marker - a.marker) moment name
   pub sent_back : SentBefore f ps (slack_of ps a b) b (b.marker - a.marker) moment name
   pub counts : CountsOn f sent frame frame_after
-  pub inside : (k : ℕ) → a.marker ≤ k → k ≤ b.marker
-      → (frame ≤ name k / 100) × (name k / 100 ≤ frame_after)
+  pub below : (k e : ℕ) → a.marker ≤ k → k ≤ b.marker
+      → seen_after f ps a (slack_of ps a b) k ≡ Named e → name k / 100 ≤ frame_after
+  pub above : (k e : ℕ) → a.marker ≤ k → k ≤ b.marker
+      → seen_before f ps b (slack_of ps a b) k ≡ Named e → frame ≤ name k / 100
 
 -- One event was, in or after some pulse: the recorder lost or repeated something, or the sender's
 -- clock was set. Up to that pulse all is as the first frame says, and from the next on as the
