@@ -1,14 +1,14 @@
 -- Lists that have a value for each number, made one after another.
 use Rattle.std.proofs.Common.{◌≡◌, inl, inr, ◌<◌, ◌+◌, ◌++◌, ℕ, suc, zero, List, [], ◌∷◌, length, slice_get, Some, arith, refl, sym, ap, ◌∙◌, subst}
 use Rattle.std.proofs.lemmas.Bool.{cases_lt}
-use Rattle.std.proofs.lemmas.Option.{none-some, same_Some}
+use Rattle.std.proofs.lemmas.Option.{none-some, same_Some, slice_get_within}
 
-at-front : (A : Type 0) (xs : List A) (x : A) (k : ℕ) → k < length xs → slice_get (xs ++ x ∷ []) k ≡ slice_get xs k
+pub at-front : (A : Type 0) (xs : List A) (x : A) (k : ℕ) → k < length xs → slice_get (xs ++ x ∷ []) k ≡ slice_get xs k
 at-front A [] x k lt = absurd (omega (arith, lt))
 at-front A (y ∷ xs) x zero lt = refl
 at-front A (y ∷ xs) x (suc k) lt = at-front A xs x k (omega (arith, lt))
 
-at-end : (A : Type 0) (xs : List A) (x : A) → slice_get (xs ++ x ∷ []) (length xs) ≡ Some x
+pub at-end : (A : Type 0) (xs : List A) (x : A) → slice_get (xs ++ x ∷ []) (length xs) ≡ Some x
 at-end A [] x = refl
 at-end A (y ∷ xs) x = at-end A xs x
 
@@ -42,3 +42,18 @@ all-more A xs ys x P is before last k y at = go xs before k (ap (λ (l : List A)
     go [] b (suc k) h = absurd (none-some y h)
     go (z ∷ l) b zero h = b 0 y h
     go (z ∷ l) b (suc k) h = go l (λ i w g. b (suc i) w g) k h
+
+-- what holds of each at its place, holds of each with one more
+pub at-more : (A : Type 0) (xs ys : List A) (x : A) (P : ℕ → A → Type 0) → ys ≡ xs ++ x ∷ []
+    → ((k : ℕ) (y : A) → slice_get xs k ≡ Some y → P k y) → P (length xs) x → (k : ℕ) (y : A) → slice_get ys k ≡ Some y → P k y
+at-more A xs ys x P is before last k y at =
+    let there : slice_get (xs ++ x ∷ []) k ≡ Some y = ap (λ (l : List A). slice_get l k) (sym is) ∙ at in
+    let inside = slice_get_within (xs ++ x ∷ []) k y there in
+    let many = longer A xs x in
+    elim (cases_lt k (length xs)) [
+      | inl low ↦ before k y (sym (at-front A xs x k low) ∙ there)
+      | inr high ↦
+          let here : k ≡ length xs = omega (arith, high, inside, many) in
+          let same : x ≡ y = same_Some x y (sym (at-end A xs x) ∙ (ap (λ i. slice_get (xs ++ x ∷ []) i) (sym here) ∙ there)) in
+          subst (λ i. P i y) (sym here) (subst (λ z. P (length xs) z) same last)
+    ]

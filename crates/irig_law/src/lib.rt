@@ -3,7 +3,10 @@
 
 mod bridge;
 mod clock;
+mod clocks;
+mod denials;
 mod frame;
+mod hours;
 mod law;
 mod names;
 mod point;

@@ -1,0 +1,146 @@
+//! Whether a pulse denies what it should be by a frame. `Lens` shows the pulses of a track. Bounds
+//! in `requires`, as 2 ^ 63, only keep numbers in their types.
+
+ghost use Rattle.std.specs.Prelude.{◌≡◌, ◌<◌, ◌^◌, ℕ, IfSome, Some, slice_get};
+ghost use Rattle.irig_index.specs.Marker.{is_position};
+ghost use Rattle.irig_law.specs.Denials.{denies_named, denies_seen, is_denied, is_unlike};
+ghost use Rattle.irig_law.specs.Denials.{is_unlike_in};
+ghost use Rattle.irig_times.specs.{OtherTimes.is_identifier, Torn.is_stray};
+
+use crate::frame::Frame;
+use crate::names::Seen;
+use crate::point::{Point, element_in};
+use irig_codes::{Element, Format, class, encode, fits};
+use irig_times::{contradicts, fields_at, pulse_at};
+use irig_track::Lens;
+
+/// Whether a pulse is of another class than an element: a position identifier or none, or of those
+/// that carry the time. False if it is not there.
+fn is_unlike(pulses: &mut Lens<'_>, format: Format, number: usize, point: &Point) -> bool
+    requires { (point.now.element < 100) × (point.now.frame.micros < 61000000) }
+    ensures unlike { result ≡ is_unlike format (slice_get pulses.old.track.pulses number)
+        point.now }
+    ensures pulses { pulses.new.track ≡ pulses.old.track }
+{
+    let fields = fields_at(format, &point.frame);
+    if !fits(format, &fields) {
+        return false;
+    }
+    let wanted = encode(format, &fields);
+    is_unlike_in(pulses, format, &wanted, number, point.element)
+}
+
+/// Whether a pulse is of another class than an element of a frame that has these elements.
+fn is_unlike_in(
+    pulses: &mut Lens<'_>,
+    format: Format,
+    wanted: &[Element; 100],
+    number: usize,
+    element: usize,
+) -> bool
+    requires { element < 100 }
+    ensures unlike { result ≡ is_unlike_in format (slice_get pulses.old.track.pulses number)
+        wanted.now element }
+    ensures pulses { pulses.new.track ≡ pulses.old.track }
+{
+    contradicts(pulses, format, wanted, number, element)
+        || is_stray(pulses, format, number, wanted[element])
+}
+
+/// Whether a pulse is a position identifier where none is wanted; false if it is not there.
+fn is_stray(pulses: &mut Lens<'_>, format: Format, number: usize, wanted: Element) -> bool
+    ensures stray { result ≡ is_stray format (slice_get pulses.old.track.pulses number)
+        (Some wanted) }
+    ensures pulses { pulses.new.track ≡ pulses.old.track }
+{
+    match pulse_at(pulses, number) {
+        Some(pulse) => {
+            !is_identifier(wanted)
+                && is_position(class(format, pulse.fall.saturating_sub(pulse.rise)))
+        }
+        None => false,
+    }
+}
+
+/// Whether an element is a position identifier.
+fn is_identifier(element: Element) -> bool
+    ensures { result ≡ is_identifier element }
+{
+    match element {
+        Element::Position => true,
+        _ => false,
+    }
+}
+
+/// Whether a class is that of a position identifier; false for a width of no class.
+fn is_position(class: Option<Element>) -> bool
+    ensures { result ≡ is_position class }
+{
+    match class {
+        Some(Element::Position) => true,
+        _ => false,
+    }
+}
+
+/// The same of an element, if it is known.
+pub fn is_denied(pulses: &mut Lens<'_>, format: Format, number: usize, point: Option<Point>) -> bool
+    requires { IfSome point (λ x. (x.element < 100) × (x.frame.micros < 61000000)) }
+    ensures denied { result ≡ is_denied format (slice_get pulses.old.track.pulses number) point }
+    ensures pulses { pulses.new.track ≡ pulses.old.track }
+{
+    match point {
+        Some(point) => is_unlike(pulses, format, number, &point),
+        None => false,
+    }
+}
+
+/// Whether a pulse denies what is seen of it: it is on no grid of the frame, or of another class
+/// than the element of its name.
+pub fn denies_seen(
+    pulses: &mut Lens<'_>,
+    format: Format,
+    frame: &Frame,
+    is_back: bool,
+    number: usize,
+    seen: Seen,
+) -> bool
+    requires minute { frame.now.time.micros < 61000000 }
+    requires low { (e : ℕ) → seen ≡ Seen.Named e → e < 2 ^ 63 }
+    ensures denies { result ≡ denies_seen format frame.now is_back
+        (slice_get pulses.old.track.pulses number) seen }
+    ensures pulses { pulses.new.track ≡ pulses.old.track }
+{
+    match seen {
+        Seen::Named(name) => {
+            let point = element_in(format, frame, is_back, name);
+            is_denied(pulses, format, number, point)
+        }
+        Seen::Astray => true,
+        Seen::Unknown => false,
+    }
+}
+
+/// The same of its name alone: a pulse on no grid shows nothing.
+pub fn denies_named(
+    pulses: &mut Lens<'_>,
+    format: Format,
+    frame: &Frame,
+    is_back: bool,
+    number: usize,
+    seen: Seen,
+) -> bool
+    requires minute { frame.now.time.micros < 61000000 }
+    requires low { (e : ℕ) → seen ≡ Seen.Named e → e < 2 ^ 63 }
+    ensures denies { result ≡ denies_named format frame.now is_back
+        (slice_get pulses.old.track.pulses number) seen }
+    ensures pulses { pulses.new.track ≡ pulses.old.track }
+{
+    match seen {
+        Seen::Named(name) => {
+            let point = element_in(format, frame, is_back, name);
+            is_denied(pulses, format, number, point)
+        }
+        Seen::Astray => false,
+        Seen::Unknown => false,
+    }
+}
