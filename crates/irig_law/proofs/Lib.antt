@@ -1,8 +1,11 @@
 mod Bridges
+mod Denied
 mod Each
 mod Hops
 mod Lists
+mod Meeting
 mod Printed
+mod SeenLists
 mod SentNames
 mod StandardFacts
 mod Walked

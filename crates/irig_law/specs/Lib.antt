@@ -3,14 +3,17 @@ pub mod BridgeTruth
 pub mod Clocks
 pub mod Denials
 pub mod Elements
+pub mod EndPoints
 pub mod Ends
 pub mod Fits
+pub mod Happened
 pub mod Hop
 pub mod Hours
 pub mod Law
 pub mod Names
 pub mod Printed
 pub mod Rows
+pub mod Seens
 pub mod Sides
 pub mod Stories
 pub mod Stretches

@@ -5,12 +5,15 @@ mod bridge;
 mod clock;
 mod clocks;
 mod denials;
+mod fits;
 mod frame;
+mod happened;
 mod hours;
 mod law;
 mod names;
 mod point;
 mod row;
+mod seens;
 mod sides;
 
 pub use bridge::{Bridge, bridge_over};

@@ -1,0 +1,43 @@
+-- What happened in a stretch between two frames, and what its two lists say then of a pulse. This
+-- project's own.
+use Rattle.std.specs.Prelude.{◌≡◌, ◌↔◌, ℕ, ◌+◌, ◌-◌, ◌*◌, ◌<◌, ◌≤◌, nat_le, nat_lt, Bool, List}
+use Rattle.std.specs.Prelude.{length, slice_get, Option, Some, None, if◌then◌else◌}
+use Rattle.irig_codes.specs.Format.{FormatView}
+use Rattle.irig_recording.specs.declared.pulse.Pulse.{Pulse}
+use Rattle.irig_law.specs.{Fits.Fits, Sides.IsAfter, Sides.IsBefore, Stretches.by_second}
+use Rattle.irig_law.specs.Stretches.{first_denials, named_after, quiet_of, second_denials}
+use Rattle.irig_law.specs.declared.frame.Frame.{Frame}
+use Rattle.irig_law.specs.declared.happened.Happened.{Happened}
+use Rattle.irig_law.specs.declared.happened.Happened.TheVariants.{Event, Nothing}
+use Rattle.irig_law.specs.declared.names.Seen.{Seen}
+use Rattle.irig_law.specs.declared.point.Point.{Point}
+use Rattle.irig_law.specs.declared.sides.Sides.{Sides}
+
+-- these are the sides of an event
+pub record AreSides (first second : List Bool) (sides : Sides) : Type 0 where
+  pub before : (k : ℕ) → (k < sides.until) ↔ IsBefore first second k
+  pub after : (k : ℕ) → k < length first → (sides.from ≤ k) ↔ IsAfter first second k
+
+-- the frames fit, or there was an event, which has sides
+abbrev pub HasHappened : FormatView → ℕ → List Pulse → Frame → Frame → Happened → Type 0
+HasHappened f century ps a b (Nothing n) = Fits f century ps a b n
+HasHappened f century ps a b (Event sides) =
+    ((n : ℕ) → Fits f century ps a b n → ⊥)
+    × AreSides (first_denials f ps a b) (second_denials f ps a b) sides
+
+-- by this the element of a pulse of which this is seen by the two frames
+abbrev pub event_of : FormatView → Frame → Frame → Sides → ℕ → Seen → Seen → Option Point
+event_of f a b sides k s t =
+    if nat_lt (k - a.marker) sides.until then named_after f a s
+    else (if nat_le sides.from (k - a.marker) then by_second f b k t else None)
+
+abbrev pub point_by : FormatView → Frame → Frame → Happened → ℕ → Seen → Seen → Option Point
+point_by f a b (Nothing n) k s t = quiet_of f a b (100 * n) k s t
+point_by f a b (Event sides) k s t = event_of f a b sides k s t
+
+-- this is what is said of the pulse at a place of the stretch
+abbrev pub IsPointBy : FormatView → Frame → Frame → Happened → List Seen → List Seen → ℕ
+    → Option Point → Type 0
+IsPointBy f a b h after before i y = (s t : Seen) → slice_get after i ≡ Some s
+    → slice_get before (b.marker - (a.marker + i)) ≡ Some t
+    → y ≡ point_by f a b h (a.marker + i) s t

@@ -1,0 +1,138 @@
+//! When two frames fit each other, so that no event is between them. `century` is that of years of
+//! two digits: 20 for 2000 to 2099. `Lens` shows the pulses of a track. Bounds in `requires`, as
+//! 2 ^ 26, only keep sums in their types.
+
+ghost use Rattle.std.specs.Prelude.{◌≡◌, ◌↔◌, ◌<◌, ◌≤◌, ◌+◌, ◌-◌, ◌^◌, ℕ, IsTrue, MatchOption};
+ghost use Rattle.std.specs.Prelude.{Some, length, slice_get};
+ghost use Rattle.irig_law.specs.Clocks.{slack_of};
+ghost use Rattle.irig_law.specs.Fits.{Fits, IsNear, in_day, periods_apart};
+ghost use Rattle.irig_law.specs.Seens.{MeetAt, SeenAfter, SeenBefore};
+
+use crate::clocks::span_of;
+use crate::frame::Frame;
+use crate::names::Seen;
+use crate::row::micros_between;
+use crate::seens::seen_at;
+use irig_codes::Format;
+use irig_times::{Time, are_apart, day_micros, same_day};
+use irig_track::Lens;
+
+/// How many periods one time is after another on one day, if it is a whole number of them.
+fn in_day(period: u64, from: &Time, to: &Time) -> Option<u64>
+    requires some { 0 < period }
+    requires times { (from.now.micros < 61000000) × (to.now.micros < 61000000) }
+    ensures { result ≡ in_day period from.now to.now }
+{
+    let first = day_micros(from);
+    let last = day_micros(to);
+    if same_day(from, to) && first < last && (last - first) % period == 0 {
+        Some((last - first) / period)
+    } else {
+        None
+    }
+}
+
+/// How many periods one time is after another: one or two by the calendar, more on one day.
+fn periods_apart(century: u32, period: u64, from: &Time, to: &Time) -> Option<u64>
+    requires century { century ≤ 99 }
+    requires period { (0 < period) × (period < 2 ^ 25) }
+    requires times { (from.now.micros < 61000000) × (to.now.micros < 61000000) }
+    ensures { result ≡ periods_apart century period from.now to.now }
+{
+    if are_apart(century, period, 1, from, to) {
+        return Some(1);
+    }
+    if are_apart(century, period, 2, from, to) {
+        return Some(2);
+    }
+    in_day(period, from, to)
+}
+
+/// Whether two markers are this many periods apart by the clock of both frames, to half an
+/// interval.
+fn is_near(pulses: &mut Lens<'_>, from: &Frame, to: &Frame, periods: u64) -> bool
+    requires { (from.now.marker < 2 ^ 26) × (to.now.marker < 2 ^ 26) }
+    ensures near { IsTrue result
+        ↔ IsNear pulses.old.track.pulses from.now to.now periods }
+    ensures pulses { pulses.new.track ≡ pulses.old.track }
+{
+    let found = micros_between(pulses, from.marker, to.marker);
+    let one = span_of(pulses, from);
+    let other = span_of(pulses, to);
+    let both = one as u128 + other as u128;
+    let said = 100 * periods as u128 * both;
+    2 * (198 * found as u128).abs_diff(said) <= both
+}
+
+/// Whether a pulse has the same name by both frames, which are this many periods apart. The second
+/// list goes back to the pulse that the first one begins with.
+fn meet(after: &[Seen], before: &[Seen], periods: u64) -> bool
+    requires few { length before.now ≤ length after.now }
+    requires after { (k e : ℕ) → slice_get after.now k ≡ Some (Seen.Named e) → e < 2 ^ 63 }
+    requires before { (k e : ℕ) → slice_get before.now k ≡ Some (Seen.Named e) → e < 2 ^ 63 }
+    ensures { IsTrue result ↔ ((i : ℕ) × MeetAt after.now before.now periods i) }
+{
+    for place in 0..before.len() {
+        if meet_at(after, before, periods, place) {
+            return true;
+        }
+    }
+    false
+}
+
+/// Whether the pulse at a place has.
+fn meet_at(after: &[Seen], before: &[Seen], periods: u64, place: usize) -> bool
+    requires few { length before.now ≤ length after.now }
+    requires place { place < length before.now }
+    requires after { (k e : ℕ) → slice_get after.now k ≡ Some (Seen.Named e) → e < 2 ^ 63 }
+    requires before { (k e : ℕ) → slice_get before.now k ≡ Some (Seen.Named e) → e < 2 ^ 63 }
+    ensures { IsTrue result ↔ MeetAt after.now before.now periods place }
+{
+    let one = seen_at(after, place);
+    let other = seen_at(before, before.len() - 1 - place);
+    match (one, other) {
+        (Seen::Named(one), Seen::Named(other)) => {
+            one as u128 + other as u128 == 100 * periods as u128
+        }
+        (Seen::Named(_), _) => false,
+        (Seen::Astray, _) => false,
+        (Seen::Unknown, _) => false,
+    }
+}
+
+/// How many periods two frames next to each other are apart, if they fit. `after` and `before` are
+/// what is seen of the pulses from the first one on, and back from the second one to the first.
+pub fn fits(
+    pulses: &mut Lens<'_>,
+    format: Format,
+    century: u32,
+    from: &Frame,
+    to: &Frame,
+    after: &[Seen],
+    before: &[Seen],
+) -> Option<u64>
+    requires century { century ≤ 99 }
+    requires times { (from.now.time.micros < 61000000) × (to.now.time.micros < 61000000) }
+    requires order { (from.now.marker < to.now.marker) × (to.now.marker < 2 ^ 26) }
+    requires after { SeenAfter format pulses.old.track.pulses from.now
+        (slack_of pulses.old.track.pulses from.now to.now) after.now }
+    requires before { SeenBefore format pulses.old.track.pulses to.now
+        (slack_of pulses.old.track.pulses from.now to.now) before.now }
+    requires long { to.now.marker - from.now.marker + 1 ≤ length after.now }
+    requires long_too { length before.now ≡ to.now.marker - from.now.marker + 1 }
+    ensures fits { MatchOption result
+        ((n : ℕ) → Fits format century pulses.old.track.pulses from.now to.now n → ⊥)
+        (λ n. Fits format century pulses.old.track.pulses from.now to.now n) }
+    ensures pulses { pulses.new.track ≡ pulses.old.track }
+{
+    let Some(periods) = periods_apart(century, format.frame_period(), &from.time, &to.time) else {
+        return None;
+    };
+    if is_near(pulses, from, to, periods) {
+        return Some(periods);
+    }
+    if meet(after, before, periods) {
+        return Some(periods);
+    }
+    None
+}
