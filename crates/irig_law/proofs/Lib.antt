@@ -8,4 +8,5 @@ mod Printed
 mod SeenLists
 mod SentNames
 mod StandardFacts
+mod Stretched
 mod Walked

@@ -15,6 +15,7 @@ mod point;
 mod row;
 mod seens;
 mod sides;
+mod stretch;
 
 pub use bridge::{Bridge, bridge_over};
 pub use clock::{Clock, hop_over};
