@@ -1,6 +1,7 @@
 mod Bridges
 mod Denied
 mod Each
+mod EndsSaid
 mod Hops
 mod Lists
 mod Meeting

@@ -5,6 +5,7 @@ mod bridge;
 mod clock;
 mod clocks;
 mod denials;
+mod ends;
 mod fits;
 mod frame;
 mod happened;
