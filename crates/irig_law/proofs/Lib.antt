@@ -3,11 +3,14 @@ mod Denied
 mod Each
 mod EndsSaid
 mod Hops
+mod Joined
 mod Lists
 mod Meeting
 mod Printed
+mod SaidPoints
 mod SeenLists
 mod SentNames
 mod StandardFacts
 mod Stretched
+mod TrueTimes
 mod Walked

@@ -9,13 +9,16 @@ pub mod Fits
 pub mod Happened
 pub mod Hop
 pub mod Hours
+pub mod Joins
 pub mod Law
 pub mod Names
+pub mod Points
 pub mod Printed
 pub mod Rows
 pub mod Seens
 pub mod Sides
 pub mod Stories
 pub mod Stretches
+pub mod Theorem
 pub mod Theorems
 pub mod Truth
