@@ -3,9 +3,11 @@
 use Rattle.std.proofs.Common.{◌≡◌, ℕ, Bool, true, false, List, [], ◌∷◌, Option, Some, None, map, refl}
 use Rattle.std.specs.Prelude.{get_or}
 use Rattle.irig_times.specs.declared.time.Time.{Time}
-use Rattle.irig_law.specs.{Bridge.off, Bridge.on_line, Hop.hop, Names.seen}
+use Rattle.irig_codes.specs.Format.{FormatView}
+use Rattle.irig_codes.specs.declared.format.Kind.TheVariants.{B}
+use Rattle.irig_law.specs.{Bound.rate_of, Bound.units_of, Bridge.off, Elements.element_after, Elements.element_before, Hop.hop, Names.seen}
 use Rattle.irig_law.specs.Hours.{earlier_in_hour, later_in_hour}
-use Rattle.irig_law.specs.declared.clock.Clock.{Clock}
+use Rattle.irig_law.specs.declared.{clock.Clock.Clock, frame.Frame.Frame}
 use Rattle.irig_law.specs.declared.names.Seen.{Seen}
 use Rattle.irig_law.specs.declared.names.Seen.TheVariants.{Named, Astray, Unknown}
 
@@ -47,3 +49,25 @@ first = refl
 -- of 10,000
 pub bridge : off (record { least = 999; most = 1001 }) 10 10000 5 ≡ 5
 bridge = refl
+
+-- the same hole by the clock above, which strays by two parts in a hundred thousand: in the middle, five intervals from each end, the
+-- line is off by a ten-thousandth of an interval
+pub bound : off (rate_of clock) 100000 (units_of 10) 50000 ≡ 101050000
+bound = refl
+
+-- elements of B after a marker at 12:34:56 and before it: 205 after is element 5 of the second after next, 1 before is element 99 of 12:34:55
+abbrev frame : Frame
+frame = record { marker = 300; time = at 34 56000000 }
+
+abbrev format : FormatView
+format = record { kind = B; expression = 0 }
+
+pub element : element_after format frame 205 ≡ Some (record { frame = at 34 58000000; element = 5 })
+element = refl
+
+pub element_back : element_before format frame 1 ≡ Some (record { frame = at 34 55000000; element = 99 })
+element_back = refl
+
+-- and none is known in the next hour
+pub no_element : element_after format (record { marker = 300; time = at 59 59000000 }) 100 ≡ None
+no_element = refl

@@ -1,3 +1,4 @@
+pub mod Bound
 pub mod Bridge
 pub mod BridgeTruth
 pub mod Clocks

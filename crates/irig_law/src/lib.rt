@@ -1,6 +1,7 @@
 //! The law of time: what a recording shows of the time of its pulses, and when that is true.
 #![tactic(auto)]
 
+mod bound;
 mod bridge;
 mod clock;
 mod clocks;
@@ -19,6 +20,7 @@ mod seens;
 mod sides;
 mod stretch;
 
+pub use bound::bound_between;
 pub use bridge::{Bridge, bridge_over};
 pub use clock::{Clock, hop_over};
 pub use frame::Frame;
