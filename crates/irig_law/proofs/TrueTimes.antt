@@ -1,12 +1,11 @@
 -- The time of each point of a recording is the true one.
-use Rattle.std.proofs.Common.{◌≡◌, inl, inr, ◌<◌, ◌≤◌, ◌+◌, ◌-◌, ℕ, suc, zero, List, [], ◌∷◌, length, slice_get, get_or, Some, arith, sym, ap, ◌∙◌, subst}
+use Rattle.std.proofs.Common.{◌≡◌, inl, inr, ◌<◌, ◌≤◌, ◌+◌, ◌-◌, ℕ, suc, zero, List, [], ◌∷◌, length, slice_get, get_or, Some, arith, ap, ◌∙◌}
 use Rattle.std.proofs.lemmas.Bool.{cases_lt}
 use Rattle.std.proofs.lemmas.Option.{slice_get-get_or, slice_get_within}
 use Rattle.irig_codes.specs.Format.{FormatView}
 use Rattle.irig_codes.specs.declared.fields.Fields.{Fields}
 use Rattle.irig_recording.specs.declared.pulse.Pulse.{Pulse}
-use Rattle.irig_times.specs.OtherTimes.{time_elements}
-use Rattle.irig_law.specs.{Law.IsBetween, Points.IsPoint, Printed.printed, Printed.true_time}
+use Rattle.irig_law.specs.{Points.IsPoint, Printed.printed, Printed.true_time}
 use Rattle.irig_law.specs.Theorem.{Story, TimesAreTrue}
 use Rattle.irig_law.specs.declared.{frame.Frame.Frame, point.Point.Point}
 use Rattle.irig_law.proofs.Printed.{begin_times, end_times, eventful_times, quiet_times, time-few}

@@ -1,6 +1,6 @@
-use Rattle.std.proofs.Common.{◌≡◌, ℕ, sym, subst}
+use Rattle.std.proofs.Common.{ℕ, sym, subst}
 use Rattle.irig_law.specs.{Bound.rate_of, Bound.units_of, Hop.Within}
-use Rattle.irig_law.specs.Bridge.{off, on_line}
+use Rattle.irig_law.specs.Bridge.{off}
 use Rattle.irig_law.proofs.Bridges.{bridges_are_bounded}
 use Rattle.irig_law.proofs.bound.bound_between.Goals as goal
 

@@ -1,4 +1,4 @@
-use Rattle.std.proofs.Common.{◌≡◌, ◌+◌, ℕ, Option, arith, sym, subst}
+use Rattle.std.proofs.Common.{◌≡◌, ℕ, Option, arith, sym, subst}
 use Rattle.irig_law.specs.EndPoints.{begin_of}
 use Rattle.irig_law.specs.declared.point.Point.{Point}
 use Rattle.irig_law.proofs.Each.{at-more, one-longer}

@@ -1,4 +1,4 @@
-use Rattle.std.proofs.Common.{◌≡◌, ◌+◌, ◌<◌, ◌≤◌, ℕ, false, slice_get}
+use Rattle.std.proofs.Common.{◌≡◌, ◌+◌, ◌<◌, ℕ, false, slice_get}
 use Rattle.irig_law.specs.{Clocks.end_slack, Denials.denies_named, Denials.seen_after}
 use Rattle.irig_law.proofs.ends.none_denies_after.Given as goal
 

@@ -1,8 +1,7 @@
-use Rattle.std.proofs.Common.{◌≡◌, inl, inr, ℕ, Some, None, ap, sym, ◌∙◌, subst}
+use Rattle.std.proofs.Common.{◌≡◌, inl, inr, ℕ, ap, sym, ◌∙◌, subst}
 use Rattle.std.proofs.lemmas.Bool.{both_ways}
-use Rattle.std.proofs.lemmas.Option.{none-some, same_Some}
-use Rattle.irig_codes.specs.Format.{frame_period_of}
-use Rattle.irig_law.specs.Fits.{Fits, IsNear, Meets, periods_apart}
+use Rattle.std.proofs.lemmas.Option.{same_Some}
+use Rattle.irig_law.specs.Fits.{IsNear, Meets, periods_apart}
 use Rattle.irig_law.proofs.Meeting.{meets-at, met-at}
 use Rattle.irig_law.proofs.fits.fits.Goals as goal
 

@@ -1,5 +1,4 @@
 use Rattle.std.proofs.Common.{arith}
-use Rattle.irig_law.specs.Seens.{MeetAt}
 use Rattle.irig_law.proofs.fits.meet.Goals as goal
 
 pub returns : goal.returns

@@ -1,4 +1,4 @@
-use Rattle.std.proofs.Common.{◌≡◌, ◌+◌, ◌≤◌, Bool, List, ℕ, arith, sym, ap, ◌∙◌, subst}
+use Rattle.std.proofs.Common.{◌≡◌, ◌+◌, Bool, List, ℕ, arith, sym, ap, ◌∙◌, subst}
 use Rattle.irig_recording.specs.declared.pulse.Pulse.{Pulse}
 use Rattle.irig_law.specs.{Clocks.slack_of, Denials.denies_second, Seens.SeenBefore, Stretches.stretch}
 use Rattle.irig_law.proofs.{Denied.denials-are, Each.at-more, Each.one-longer}

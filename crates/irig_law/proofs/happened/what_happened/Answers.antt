@@ -1,4 +1,4 @@
-use Rattle.std.proofs.Common.{◌≡◌, Bool, List, length, None, ap, sym, ◌∙◌, subst}
+use Rattle.std.proofs.Common.{◌≡◌, Bool, List, length, ap, sym, ◌∙◌, subst}
 use Rattle.irig_recording.specs.declared.pulse.Pulse.{Pulse}
 use Rattle.irig_law.specs.{Clocks.slack_of, Denials.denies_first, Denials.denies_second, Happened.AreSides}
 use Rattle.irig_law.specs.Stretches.{first_denials, second_denials, stretch}

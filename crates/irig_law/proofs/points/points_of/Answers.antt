@@ -1,9 +1,9 @@
-use Rattle.std.proofs.Common.{◌≡◌, ◌≤◌, ◌+◌, ◌-◌, ℕ, List, length, slice_get, Option, Some, arith, refl, sym, ap, ◌∙◌, subst}
+use Rattle.std.proofs.Common.{◌≡◌, ◌+◌, ◌-◌, ℕ, List, length, Option, arith, sym, ap, subst}
 use Rattle.std.specs.Prelude.{◌↔◌}
 use Rattle.std.proofs.lemmas.Option.{slice_get_within}
 use Rattle.irig_recording.specs.declared.pulse.Pulse.{Pulse}
 use Rattle.irig_law.specs.{Ends.IsAfterLast, Joins.AreSaid, Joins.Knows}
-use Rattle.irig_law.specs.declared.{frame.Frame.Frame, point.Point.Point}
+use Rattle.irig_law.specs.declared.{point.Point.Point}
 use Rattle.irig_law.proofs.{SaidPoints.points-are, TrueTimes.times_true}
 use Rattle.irig_law.proofs.points.points_of.Goals as goal
 

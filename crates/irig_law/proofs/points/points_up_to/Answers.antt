@@ -1,8 +1,8 @@
-use Rattle.std.proofs.Common.{◌≡◌, ◌<◌, ◌≤◌, ◌+◌, ◌-◌, ℕ, List, length, slice_get, Option, Some, arith, refl, sym, ap, ◌∙◌, subst}
+use Rattle.std.proofs.Common.{◌≡◌, ◌+◌, ◌-◌, ℕ, List, length, slice_get, Option, arith, sym, ap, ◌∙◌, subst}
 use Rattle.std.specs.Prelude.{◌↔◌}
 use Rattle.irig_recording.specs.declared.pulse.Pulse.{Pulse}
-use Rattle.irig_law.specs.{Ends.IsBeforeFirst, Joins.AreSaid, Joins.Knows, Law.IsBetween}
-use Rattle.irig_law.specs.declared.{frame.Frame.Frame, point.Point.Point}
+use Rattle.irig_law.specs.{Joins.AreSaid, Joins.Knows, Law.IsBetween}
+use Rattle.irig_law.specs.declared.{point.Point.Point}
 use Rattle.irig_law.proofs.{Printed.time-few, SaidPoints.said-first, SaidPoints.said-more}
 use Rattle.irig_law.proofs.points.points_up_to.Goals as goal
 

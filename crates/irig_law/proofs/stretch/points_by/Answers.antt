@@ -1,4 +1,4 @@
-use Rattle.std.proofs.Common.{◌≡◌, ◌+◌, ℕ, slice_get, Option, arith, sym, ap, ◌∙◌, subst}
+use Rattle.std.proofs.Common.{◌+◌, ℕ, slice_get, Option, arith, sym, ap, ◌∙◌, subst}
 use Rattle.std.proofs.lemmas.Option.{same_Some}
 use Rattle.irig_law.specs.Happened.{IsPointBy, point_by}
 use Rattle.irig_law.specs.declared.{names.Seen.Seen, point.Point.Point}
