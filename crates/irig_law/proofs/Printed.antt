@@ -11,7 +11,7 @@ use Rattle.irig_times.specs.{OtherTimes.time_elements, Parts.plus, Times.minute_
 use Rattle.irig_law.specs.{Clocks.clock_of, Clocks.end_slack, Clocks.slack_of, Denials.seen_after, Denials.seen_before}
 use Rattle.irig_law.specs.Elements.{element_after, element_at, element_before}
 use Rattle.irig_law.specs.Hours.{at_hour, earlier_in_hour, hour_micros, later_in_hour}
-use Rattle.irig_law.specs.{Law.IsOnFirst, Law.IsOnSecond}
+use Rattle.irig_law.specs.{Law.IsMarker, Law.IsOnFirst, Law.IsOnSecond}
 use Rattle.irig_law.specs.Printed.{CountsOn, IsLater, printed, true_time}
 use Rattle.irig_law.specs.Rows.{rise_in, row_after, row_before, runs_in}
 use Rattle.irig_law.specs.Stories.{Eventful, Quiet, SentAfter, SentBefore}
@@ -254,9 +254,16 @@ eventful_times f century ps a b moment moment_after name sent s k x low few side
       | inr early ↦ absurd (s.one_before h.after.shown.one h.after.shown.other h.after.shown.order early h.after.shown.denies h.after.shown.denies_too)
     ]
 
-    by-side : IsOnFirst f ps a b k x ⊎ IsOnSecond f ps a b k x → printed f x ≡ true_time f sent (name k)
-    by-side (inl h) = on-first h
-    by-side (inr h) = on-second h
+    at-marker : IsMarker f a k x → printed f x ≡ true_time f sent (name k)
+    at-marker h =
+        let all = ap name h.0 in
+        let marker = s.shown.marker in
+        own f sent a s.frame (name k) 0 x s.shown.time (omega arith) (omega (arith, all, marker)) h.1
+
+    by-side : IsMarker f a k x ⊎ (IsOnFirst f ps a b k x ⊎ IsOnSecond f ps a b k x) → printed f x ≡ true_time f sent (name k)
+    by-side (inl h) = at-marker h
+    by-side (inr (inl h)) = on-first h
+    by-side (inr (inr h)) = on-second h
 
 pub end_times : EndTimesAreTrue
 end_times f ps a moment name sent q k x last = elim (cases_lt a.marker k) [

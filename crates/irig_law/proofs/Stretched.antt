@@ -1,13 +1,14 @@
 -- What the two lists of a stretch say of a pulse is what the law says.
 use Rattle.std.proofs.Common.{◌≡◌, ◌⊎◌, inl, inr, ◌<◌, ◌≤◌, ◌+◌, ◌-◌, ◌*◌, ℕ, List, Bool, length, slice_get, get_or, Option, Some, None, arith, sym, ap, ◌∙◌, subst}
 use Rattle.std.specs.Prelude.{◌↔◌, nat_le, nat_lt, if◌then◌else◌}
-use Rattle.std.proofs.lemmas.Bool.{cases_lt, cond-false, cond-true, cond_both, le-leb, le-ltb, leb-true, lt-ltb, ltb-false, ltb-true}
+use Rattle.std.proofs.lemmas.Bool.{cases_lt, cond-false, cond-true, cond_both, le-leb, le-ltb, leb-true, lt-leb, lt-ltb, ltb-true}
 use Rattle.std.proofs.lemmas.Option.{none-some, same_Some, slice_get-get_or, slice_get_within}
 use Rattle.irig_codes.specs.Format.{FormatView}
 use Rattle.irig_recording.specs.declared.pulse.Pulse.{Pulse}
-use Rattle.irig_law.specs.{Clocks.slack_of, Denials.denies_first, Denials.seen_after, Denials.seen_before, Fits.Fits}
+use Rattle.irig_law.specs.{Clocks.clock_of, Clocks.slack_of, Denials.denies_first, Denials.seen_after, Denials.seen_before, Elements.element_after}
+use Rattle.irig_law.specs.{Names.seen, Rows.rise_in, Rows.row_after, Rows.runs_in}
 use Rattle.irig_law.specs.Happened.{AreSides, HasHappened, IsPointBy, event_of, point_by}
-use Rattle.irig_law.specs.Law.{IsBetween, IsOnFirst, IsOnSecond, IsOnSide, IsQuiet}
+use Rattle.irig_law.specs.Law.{IsBetween, IsMarker, IsOnFirst, IsOnSecond, IsOnSide, IsQuiet}
 use Rattle.irig_law.specs.{Seens.SeenAfter, Seens.SeenBefore, Sides.IsAfter, Sides.IsBefore}
 use Rattle.irig_law.specs.Stretches.{by_second, first_denials, named_after, quiet_of, second_denials, stretch}
 use Rattle.irig_law.specs.declared.{frame.Frame.Frame, happened.Happened.Happened, names.Seen.Seen, point.Point.Point, sides.Sides.Sides}
@@ -43,25 +44,31 @@ module _ (f : FormatView) (century : ℕ) (ps : List Pulse) (a b : Frame) (i : �
   Says = IsQuiet f century ps a b k x ⊎ IsOnSide f century ps a b k x
 
   abbrev IsSided : Type 0
-  IsSided = IsOnFirst f ps a b k x ⊎ IsOnSecond f ps a b k x
+  IsSided = IsMarker f a k x ⊎ (IsOnFirst f ps a b k x ⊎ IsOnSecond f ps a b k x)
+
+  abbrev on-side : Sides → Option Point
+  on-side sides = if nat_lt (k - a.marker) sides.until then named_after f a s else (if nat_le sides.from (k - a.marker) then by_second f b k t else None)
 
   inside : k - a.marker < length (first_denials f ps a b)
   inside = let many = length-denials (denies_first f ps a (slack_of ps a b)) a.marker (stretch f a b) in omega (arith, less, many)
 
   to-side : (sides : Sides) → AreSides (first_denials f ps a b) (second_denials f ps a b) sides → event_of f a b sides k s t ≡ Some x → IsSided
-  to-side sides are is = cond_both (nat_lt (k - a.marker) sides.until) (named_after f a s)
+  to-side sides are is = cond_both (nat_le k a.marker) (element_after f a 0) (on-side sides) (λ o. o ≡ Some x → IsSided)
+      (λ on h. (let low = leb-true k a.marker on in inl (omega (arith, low), h)))
+      (λ off. cond_both (nat_lt (k - a.marker) sides.until) (named_after f a s)
       (if nat_le sides.from (k - a.marker) then by_second f b k t else None) (λ o. o ≡ Some x → IsSided)
-      (λ on h. inl (record { before = (are.before (k - a.marker)).0 (ltb-true (k - a.marker) sides.until on); is = h }))
+      (λ on h. inr (inl (record { before = (are.before (k - a.marker)).0 (ltb-true (k - a.marker) sides.until on); is = h })))
       (λ off. cond_both (nat_le sides.from (k - a.marker)) (by_second f b k t) None (λ o. o ≡ Some x → IsSided)
-      (λ on h. inr (record { after = (are.after (k - a.marker) inside).0 (leb-true sides.from (k - a.marker) on); is = h }))
-      (λ off h. absurd (none-some x h))) is
+      (λ on h. inr (inr (record { after = (are.after (k - a.marker) inside).0 (leb-true sides.from (k - a.marker) on); is = h })))
+      (λ off h. absurd (none-some x h)))) is
 
-  from-side : (sides : Sides) → AreSides (first_denials f ps a b) (second_denials f ps a b) sides → IsSided → event_of f a b sides k s t ≡ Some x
-  from-side sides are (inl h) =
+  from-other : (sides : Sides) → AreSides (first_denials f ps a b) (second_denials f ps a b) sides
+      → IsOnFirst f ps a b k x ⊎ IsOnSecond f ps a b k x → on-side sides ≡ Some x
+  from-other sides are (inl h) =
       let low = (are.before (k - a.marker)).1 h.before in
       cond-true (nat_lt (k - a.marker) sides.until) (named_after f a s)
       (if nat_le sides.from (k - a.marker) then by_second f b k t else None) (lt-ltb (k - a.marker) sides.until low) ∙ h.is
-  from-side sides are (inr h) =
+  from-other sides are (inr h) =
       let high = (are.after (k - a.marker) inside).1 h.after in
       elim (cases_lt (k - a.marker) sides.until) [
         | inl low ↦ absurd (not-both (first_denials f ps a b) (second_denials f ps a b) (k - a.marker) ((are.before (k - a.marker)).0 low) h.after)
@@ -70,6 +77,25 @@ module _ (f : FormatView) (century : ℕ) (ps : List Pulse) (a b : Frame) (i : �
             (if nat_le sides.from (k - a.marker) then by_second f b k t else None) (le-ltb (k - a.marker) sides.until far)
             ∙ (cond-true (nat_le sides.from (k - a.marker)) (by_second f b k t) None (le-leb sides.from (k - a.marker) high) ∙ h.is)
       ]
+
+  -- the marker is before the event, and not after it
+  at-marker : k ≤ a.marker → IsSided → element_after f a 0 ≡ Some x
+  at-marker low (inl h) = h.1
+  at-marker low (inr (inl h)) =
+      let first : k - a.marker ≡ 0 = omega (arith, low) in
+      subst (λ (n : ℕ). named_after f a (seen (clock_of f ps a (slack_of ps a b)) (rise_in ps (row_after a)) (runs_in f ps (row_after a)) n) ≡ Some x)
+      first h.is
+  at-marker low (inr (inr h)) = let earlier = h.after.shown.earlier in absurd (omega (arith, low, earlier))
+
+  from-side : (sides : Sides) → AreSides (first_denials f ps a b) (second_denials f ps a b) sides → IsSided → event_of f a b sides k s t ≡ Some x
+  from-side sides are side = elim (cases_lt a.marker k) [
+    | inl later ↦ cond-false (nat_le k a.marker) (element_after f a 0) (on-side sides) (lt-leb k a.marker later) ∙ from-event sides are later side
+    | inr low ↦ cond-true (nat_le k a.marker) (element_after f a 0) (on-side sides) (le-leb k a.marker low) ∙ at-marker low side
+  ]
+    where
+      from-event : (sides : Sides) → AreSides (first_denials f ps a b) (second_denials f ps a b) sides → a.marker < k → IsSided → on-side sides ≡ Some x
+      from-event sides are later (inl h) = let at = h.0 in absurd (omega (arith, later, at))
+      from-event sides are later (inr h) = from-other sides are h
 
   to-says : (h : Happened) → HasHappened f century ps a b h → point_by f a b h k s t ≡ Some x → Says
   to-says (Nothing n) fit is = inl (record { periods = n; fits = fit; is = is })

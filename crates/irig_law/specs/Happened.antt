@@ -4,7 +4,8 @@ use Rattle.std.specs.Prelude.{◌≡◌, ◌↔◌, ℕ, ◌+◌, ◌-◌, ◌*�
 use Rattle.std.specs.Prelude.{length, slice_get, Option, Some, None, if◌then◌else◌}
 use Rattle.irig_codes.specs.Format.{FormatView}
 use Rattle.irig_recording.specs.declared.pulse.Pulse.{Pulse}
-use Rattle.irig_law.specs.{Fits.Fits, Sides.IsAfter, Sides.IsBefore, Stretches.by_second}
+use Rattle.irig_law.specs.{Elements.element_after, Fits.Fits, Sides.IsAfter, Sides.IsBefore}
+use Rattle.irig_law.specs.Stretches.{by_second}
 use Rattle.irig_law.specs.Stretches.{first_denials, named_after, quiet_of, second_denials}
 use Rattle.irig_law.specs.declared.frame.Frame.{Frame}
 use Rattle.irig_law.specs.declared.happened.Happened.{Happened}
@@ -28,8 +29,9 @@ HasHappened f century ps a b (Event sides) =
 -- by this the element of a pulse of which this is seen by the two frames
 abbrev pub event_of : FormatView → Frame → Frame → Sides → ℕ → Seen → Seen → Option Point
 event_of f a b sides k s t =
-    if nat_lt (k - a.marker) sides.until then named_after f a s
-    else (if nat_le sides.from (k - a.marker) then by_second f b k t else None)
+    if nat_le k a.marker then element_after f a 0
+    else (if nat_lt (k - a.marker) sides.until then named_after f a s
+    else (if nat_le sides.from (k - a.marker) then by_second f b k t else None))
 
 abbrev pub point_by : FormatView → Frame → Frame → Happened → ℕ → Seen → Seen → Option Point
 point_by f a b (Nothing n) k s t = quiet_of f a b (100 * n) k s t

@@ -5,7 +5,7 @@ use Rattle.irig_codes.specs.Format.{FormatView}
 use Rattle.irig_recording.specs.declared.pulse.Pulse.{Pulse}
 use Rattle.irig_times.specs.OtherTimes.{time_elements}
 use Rattle.irig_law.specs.{Clocks.slack_of, Denials.seen_after, Denials.seen_before}
-use Rattle.irig_law.specs.{Fits.Fits, Sides.IsAfter, Sides.IsBefore}
+use Rattle.irig_law.specs.{Elements.element_after, Fits.Fits, Sides.IsAfter, Sides.IsBefore}
 use Rattle.irig_law.specs.Stretches.{by_second, first_denials, named_after, quiet_element}
 use Rattle.irig_law.specs.Stretches.{second_denials}
 use Rattle.irig_law.specs.declared.point.Point.{Point}
@@ -23,6 +23,10 @@ pub record IsOnSecond (f : FormatView) (ps : List Pulse) (a b : Frame) (k : ℕ)
   pub after : IsAfter (first_denials f ps a b) (second_denials f ps a b) (k - a.marker)
   pub is : by_second f b k (seen_before f ps b (slack_of ps a b) k) ≡ Some x
 
+-- the first frame's marker is its element, wherever the event is
+abbrev pub IsMarker : FormatView → Frame → ℕ → Point → Type 0
+IsMarker f a k x = (k ≡ a.marker) × (element_after f a 0 ≡ Some x)
+
 -- a pulse of a stretch is this element: no event is between the frames, or there was one
 pub record IsQuiet (f : FormatView) (century : ℕ) (ps : List Pulse) (a b : Frame) (k : ℕ)
     (x : Point) : Type 0 where
@@ -33,7 +37,7 @@ pub record IsQuiet (f : FormatView) (century : ℕ) (ps : List Pulse) (a b : Fra
 pub record IsOnSide (f : FormatView) (century : ℕ) (ps : List Pulse) (a b : Frame) (k : ℕ)
     (x : Point) : Type 0 where
   pub event : (n : ℕ) → Fits f century ps a b n → ⊥
-  pub side : IsOnFirst f ps a b k x ⊎ IsOnSecond f ps a b k x
+  pub side : IsMarker f a k x ⊎ (IsOnFirst f ps a b k x ⊎ IsOnSecond f ps a b k x)
 
 pub record IsBetween (f : FormatView) (century : ℕ) (ps : List Pulse) (a b : Frame) (k : ℕ)
     (x : Point) : Type 0 where

@@ -134,7 +134,7 @@ fn by_second(format: Format, frame: &Frame, number: usize, seen: Seen) -> Option
     }
 }
 
-/// The element of a pulse by its side of an event.
+/// The element of a pulse by its side of an event; the first frame's marker is its element.
 fn event_point(
     format: Format,
     from: &Frame,
@@ -150,7 +150,10 @@ fn event_point(
     requires low_too { (e : ℕ) → other ≡ Seen.Named e → e < 2 ^ 63 }
     ensures { result ≡ event_of format from.now to.now sides number one other }
 {
-    let place = number.saturating_sub(from.marker);
+    if number <= from.marker {
+        return element_after(format, from, 0);
+    }
+    let place = number - from.marker;
     if place < sides.until {
         named_after(format, from, one)
     } else if sides.from <= place {
