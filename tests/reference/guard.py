@@ -438,15 +438,14 @@ class Guard:
         """Tries a repair, and undoes it if it is not kept; then why."""
         if len(repair) == 1 and word_of(repair[0]) == REMARK:
             return None
-        before = self.machine.present, list(self.machine.past), list(self.machine.made)
+        before = dict(vars(self.machine), past=list(self.machine.past), made=list(self.machine.made))
         reason = self._stopped(repair)
         new = fine(self.machine.present)
         reason = reason or self.safety.fault(self.last, new, self.machine.present.pulses())
         if reason is None:
             self.last = [frame.shown for frame in new]
         else:
-            self.machine.present, self.machine.past, self.machine.made = before
-            self.machine.floor = None
+            vars(self.machine).update(before)
         return reason
 
     def _stopped(self, repair: List[bytes]) -> Optional[str]:

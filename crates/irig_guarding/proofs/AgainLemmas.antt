@@ -1,5 +1,5 @@
 -- A line does the same in a session with another future and other looks.
-use Rattle.std.proofs.Common.{◌≡◌, ℕ, List, [], ◌∷◌, Option, Some, None, option_map, refl, ap, sym, ◌∙◌, subst}
+use Rattle.std.proofs.Common.{◌≡◌, ℕ, List, [], ◌∷◌, Option, Some, None, option_map, refl, ap, sym, ◌∙◌, subst, inl}
 use Rattle.irig_journal.specs.Groups.{Floor, Grouped, floored, joined_over, over}
 use Rattle.irig_journal.specs.{History.Step, History.states_along, Machine.Kept, Machine.Machine as Track, declared.opening.Opening.Opening}
 use Rattle.irig_saved.specs.declared.change.Change.{Change}
@@ -9,7 +9,9 @@ use Rattle.irig_lines.specs.declared.command.Command.{Command}
 use Rattle.irig_lines.specs.declared.command.Command.TheVariants as command
 use Rattle.irig_script.specs.{Obey.Machine.Machine, Obey.Obeying.Obeys, Obey.Replies.Makes, declared.print.reply.Reply.TheVariants.Silent}
 use Rattle.irig_guarding.specs.Repair.{Agrees, Asks, IsPrinted, IsRepair, Obeyed, ObeyedAll}
-use Rattle.irig_guarding.proofs.RepairLemmas.{edit_of, made_by, makes, some_same}
+use Rattle.irig_guarding.specs.Undone.{RedoesNoMore}
+use Rattle.irig_guarding.proofs.{RepairLemmas.edit_of, RepairLemmas.made_by, RepairLemmas.makes, RepairLemmas.some_same}
+use Rattle.irig_guarding.proofs.UndoneLemmas.{redo_line, redoes_then}
 
 -- a session with another future and other looks
 abbrev beside : List (Step Change) → ℕ → ℕ → Machine → Machine
@@ -97,7 +99,7 @@ makes_beside edit future looks last a b h =
 
 -- what a line does does not depend on the future and the looks
 abbrev Again : Machine → List ℕ → Machine → Type 0
-Again m line b = (left : Machine) × Obeyed m line left × Agrees left b
+Again m line b = (left : Machine) × Obeyed m line left × Agrees left b × RedoesNoMore left b
 
 repaired_again : (c : Command) (line : List ℕ) (future : List (Step Change)) (looks last : ℕ) (a b : Machine) → IsRepair c → IsPrinted c → Asks c line
     → Obeys c a Silent b → Again (beside future looks last a) line b
@@ -111,31 +113,37 @@ repaired_again c line future looks last a b is printed asks h = (
         (makes_beside (edit_of c a) future looks last a b (makes c a b Silent is h)),
   ),
   record { state = refl; cursor = refl; past = refl; floor = refl },
+  inl refl,
 )
 
 again : (c : Command) (line : List ℕ) (future : List (Step Change)) (looks last : ℕ) (a b : Machine) → IsPrinted c → Asks c line → Obeys c a Silent b
-    → Again (beside future looks last a) line b
-again command.Nothing line future looks last a b is asks h = (
+    → RedoesNoMore (beside future looks last a) a → Again (beside future looks last a) line b
+again command.Nothing line future looks last a b is asks h redo = (
   beside future looks last a,
   (command.Nothing, asks, tt, (refl, refl)),
   subst (λ (m : Machine). Agrees (beside future looks last a) m) (sym h.1) (agrees_self future looks last a),
+  redoes_then (beside future looks last a) a b redo (redo_line command.Nothing a b is h),
 )
-again command.Begin line future looks last a b is asks h = (
+again command.Begin line future looks last a b is asks h redo = (
   beside future looks last b,
   (command.Begin, asks, tt, (h.0, begins_beside future (work_in a) (work_in b) h.1)),
   agrees_self future looks last b,
+  redoes_then (beside future looks last b) a b redo (redo_line command.Begin a b is h),
 )
-again command.End line future looks last a b is asks h = (
+again command.End line future looks last a b is asks h redo = (
   beside future looks last b,
   (command.End, asks, tt, (h.0, ends_beside future (work_in a) (work_in b) h.1)),
   agrees_self future looks last b,
+  redoes_then (beside future looks last b) a b redo (redo_line command.End a b is h),
 )
-again c line future looks last a b is asks h = repaired_again c line future looks last a b is is asks h
+again c line future looks last a b is asks h redo = repaired_again c line future looks last a b is is asks h
 
-pub obeyed_again : (m a b : Machine) (lines : List (List ℕ)) → Agrees m a → ObeyedAll a lines b → (left : Machine) × ObeyedAll m lines left × Agrees left b
-obeyed_again m a b [] same h = (m, refl, subst (λ (x : Machine). Agrees m x) (sym h) same)
-obeyed_again m a b (line ∷ lines) same h =
-    let one = again h.1.0 line m.future m.looks m.last_looks a h.0 h.1.2 h.1.1 h.1.3 in
-    let rest = obeyed_again one.0 h.0 b lines one.2 h.2 in
+pub obeyed_again : (m a b : Machine) (lines : List (List ℕ)) → Agrees m a → RedoesNoMore m a → ObeyedAll a lines b
+    → (left : Machine) × ObeyedAll m lines left × Agrees left b × RedoesNoMore left b
+obeyed_again m a b [] same redo h =
+    (m, refl, subst (λ (x : Machine). Agrees m x) (sym h) same, subst (λ (x : Machine). RedoesNoMore m x) (sym h) redo)
+obeyed_again m a b (line ∷ lines) same redo h =
+    let one = again h.1.0 line m.future m.looks m.last_looks a h.0 h.1.2 h.1.1 h.1.3 redo in
+    let rest = obeyed_again one.0 h.0 b lines one.2 one.3 h.2 in
     let here : Obeyed m line one.0 = subst (λ (x : Machine). Obeyed x line one.0) (sym (is_beside m a same)) one.1 in
-    (rest.0, (one.0, here, rest.1), rest.2)
+    (rest.0, (one.0, here, rest.1), rest.2, rest.3)

@@ -23,7 +23,7 @@ use Rattle.irig_safety.proofs.MovedLemmas.{located_self}
 use Rattle.irig_safety.specs.{Original.OriginalView, Safety.IsSafe, Safety.IsSafeFrom, Safety.NoneIsSpoiled, declared.shown.Shown.Shown}
 use Rattle.irig_safety.specs.Terms.{OthersView, TermsView}
 use Rattle.irig_guarding.proofs.{AgainLemmas.obeyed_again, ControlLemmas.borne_self, PulseLemmas.stand_self, ReasonLemmas.head_remarks, ReasonLemmas.reason_remark, RepairLemmas.obeyed_then}
-use Rattle.irig_guarding.proofs.UndoneLemmas.{obeyed_redo, redoes_then}
+use Rattle.irig_guarding.proofs.{RedoLemmas.obeyed_made, UndoneLemmas.redoes_then}
 
 pub on_ok : {V E : Type 0} {P Q : Type 0} (r : Result V E) → OnOk r P → (P → Q) → OnOk r Q
 on_ok (Ok v) p f = f p
@@ -80,7 +80,7 @@ group_obeyed a b first last lines begins ends g = (
 pub stands_more : (first a b : Machine) (old new : List ℕ) (lines : List (List ℕ)) → AllByRecursion IsPlain lines → ObeyedAll a lines b
     → new ≡ old ++ unlines lines → Reaches first old a → Reaches first new b
 stands_more first a b old new lines plain h text s =
-    let on = obeyed_again s.left a b lines s.same h in
+    let on = obeyed_again s.left a b lines s.same s.redo h in
     record {
       lines = s.lines ++ lines;
       plain = all-append IsPlain s.lines lines s.plain plain;
@@ -88,7 +88,7 @@ stands_more first a b old new lines plain h text s =
       left = on.0;
       obeyed = obeyed_then first s.left on.0 s.lines lines s.obeyed on.1;
       same = on.2;
-      redo = redoes_then first a b s.redo (obeyed_redo a b lines h);
+      redo = on.3;
     }
 
 pub remarks_plain : (remarks : List (List ℕ)) → AllByRecursion IsRemark remarks → AllByRecursion IsPlain remarks
@@ -115,7 +115,7 @@ stands_remarks first a b old new remarks undone s =
       left = on.left;
       obeyed = on.obeyed;
       same = agrees_agrees on.left a b on.same undone.same;
-      redo = redoes_then first a b s.redo undone.redo;
+      redo = redoes_then on.left a b on.redo undone.redo;
     }
 
 -- what reads well is safe by itself
@@ -147,9 +147,9 @@ runs_of a b [] h = (refl, h)
 runs_of a b (line ∷ lines) h =
     (h.0, [], (inr (inr (h.1.1.0, (h.1.0, h.1.1.1, h.1.3, refl))), refl), ([], refl, runs_of h.0 b lines h.2))
 
-pub stands_guarded : (terms m : TermsView) (first now : Machine) (script : List ℕ) → m ≡ terms → Reaches first script now → IsSafeAfter m first.state now.state
-    → IsGuarded terms first script now
-stands_guarded terms m first now script e s safe =
+pub stands_guarded : (terms m : TermsView) (first now : Machine) (script : List ℕ) → m ≡ terms → first.floor ≡ None → now.floor ≡ None
+    → Reaches first script now → IsSafeAfter m first.state now.state → IsGuarded terms first script now
+stands_guarded terms m first now script e closed ended s safe =
     let each = obeyed_goes first s.left s.lines s.plain s.obeyed in
     let lines : script_lines script ≡ s.lines =
     ap script_lines (s.cut ∙ sym (append-nil (unlines s.lines))) ∙ (lines_and s.lines [] each ∙ append-nil s.lines) in
@@ -158,6 +158,7 @@ stands_guarded terms m first now script e s safe =
       runs = subst (λ (l : List (List ℕ)). Runs first l (map silence l) [] s.left) (sym lines) (runs_of first s.left s.lines s.obeyed);
       same = s.same;
       redo = s.redo;
+      made = obeyed_made first s.left s.lines closed (s.same.floor ∙ ended) s.obeyed;
       safe = subst (λ (b : TermsView). IsSafeAfter b first.state now.state) e safe;
     }
 

@@ -4,12 +4,14 @@ pub mod ControlLemmas
 pub mod DropLemmas
 pub mod FillingLemmas
 pub mod GuardLemmas
+pub mod KeptLemmas
 pub mod KnownLemmas
 pub mod OddLemmas
 pub mod PlaceLemmas
 pub mod PrintedLemmas
 pub mod PulseLemmas
 pub mod ReasonLemmas
+pub mod RedoLemmas
 pub mod RepairLemmas
 pub mod RisingFrames
 pub mod RisingPulses

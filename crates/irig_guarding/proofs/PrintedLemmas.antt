@@ -80,4 +80,5 @@ printed_is_obeyed outcome terms opened script now g run start nothing =
         past = ap (λ (w : Work). w.past) (sym same.machine) ∙ g.same.past;
         floor = ap (λ (w : Work). w.floor) (sym same.machine) ∙ g.same.floor;
       },
+      sym same.machine,
     )

@@ -1,5 +1,5 @@
 -- What can be redone after repairs: what could be before, or nothing.
-use Rattle.std.proofs.Common.{◌≡◌, ℕ, List, [], ◌∷◌, Option, Some, None, Result, Ok, Err, refl, ap, sym, ◌∙◌, inl, inr}
+use Rattle.std.proofs.Common.{◌≡◌, [], Option, Some, None, Result, Ok, Err, refl, ap, sym, ◌∙◌, inl, inr}
 use Rattle.irig_journal.specs.declared.opening.Opening.{Opening}
 use Rattle.irig_edit.specs.Session.Calls.Call.{Undo, Begin, Abort}
 use Rattle.irig_edit.specs.{Edits.Refusals.refusal_of, Session.Session.Steps, Session.Session.work_in, Session.Work.Work, Session.Work.dropped_since}
@@ -8,7 +8,7 @@ use Rattle.irig_lines.specs.declared.command.Command.{Command}
 use Rattle.irig_lines.specs.declared.command.Command.TheVariants as command
 use Rattle.irig_script.specs.{Obey.Machine.Machine, Obey.Obeying.Obeys, Obey.Replies.Calls}
 use Rattle.irig_script.specs.declared.print.reply.Reply.TheVariants as told
-use Rattle.irig_guarding.specs.Repair.{Agrees, IsBeyond, IsPrinted, IsRepair, ObeyedAll}
+use Rattle.irig_guarding.specs.Repair.{Agrees, IsBeyond, IsPrinted, IsRepair}
 use Rattle.irig_guarding.specs.Undone.{IsUndone, RedoesNoMore}
 use Rattle.irig_guarding.proofs.RepairLemmas.{aborted_agrees, agrees_work, begun_here, begun_so, beyond_work, makes, never_refused, some_same, undone_agrees}
 
@@ -20,7 +20,7 @@ redoes_then a b c h (inr k) = inr k
 redoes_then a b c (inl h) (inl k) = inl (k ∙ h)
 redoes_then a b c (inr h) (inl k) = inr (k ∙ h)
 
--- lines that are obeyed
+-- a line that is obeyed
 redo_end : (floor : Option Opening) (a b : Machine) → joined_since floor (work_in a) ≡ Some (work_in b) → RedoesNoMore a b
 redo_end None a b e = absurd (cc)
 redo_end (Some o) a b e = inl (ap (λ (w : Work). w.future) (sym (some_same _ _ _ e refl)))
@@ -28,15 +28,11 @@ redo_end (Some o) a b e = inl (ap (λ (w : Work). w.future) (sym (some_same _ _ 
 redo_edit : (c : Command) (a b : Machine) → IsRepair c → Obeys c a told.Silent b → RedoesNoMore a b
 redo_edit c a b is h = inr (ap (λ (w : Work). w.future) (makes c a b told.Silent is h).1.steps)
 
-redo_line : (c : Command) (a b : Machine) → IsPrinted c → Obeys c a told.Silent b → RedoesNoMore a b
+pub redo_line : (c : Command) (a b : Machine) → IsPrinted c → Obeys c a told.Silent b → RedoesNoMore a b
 redo_line command.Nothing a b is h = inl (ap (λ (m : Machine). m.future) h.1)
 redo_line command.Begin a b is h = inl (ap (λ (w : Work). w.future) (sym (some_same _ _ _ h.1.steps refl)))
 redo_line command.End a b is h = redo_end a.floor a b h.1.steps
 redo_line c a b is h = redo_edit c a b is h
-
-pub obeyed_redo : (a b : Machine) (lines : List (List ℕ)) → ObeyedAll a lines b → RedoesNoMore a b
-obeyed_redo a b [] h = inl (ap (λ (m : Machine). m.future) h)
-obeyed_redo a b (line ∷ lines) h = redoes_then a h.0 b (redo_line h.1.0 a h.0 h.1.2 h.1.3) (obeyed_redo h.0 b lines h.2)
 
 -- an abort leaves nothing
 aborted_redo : (e f : Machine) (o : Opening) (r : Result Unit Refusal) → e.floor ≡ Some o → Steps Abort e r f → f.future ≡ []

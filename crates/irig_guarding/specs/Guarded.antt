@@ -11,7 +11,7 @@ use Rattle.irig_edit.specs.{Session.Session.work_in, State.State.State}
 use Rattle.irig_safety.specs.Terms.{TermsView}
 use Rattle.irig_guarding.specs.{SafeBy.IsSafeBy, Reading.original_of}
 use Rattle.irig_guarding.specs.Repair.{Agrees, Asks, ObeyedAll}
-use Rattle.irig_guarding.specs.Undone.{RedoesNoMore}
+use Rattle.irig_guarding.specs.Undone.{IsSameOrMade, RedoesNoMore}
 
 -- the line is accepted, and prints nothing
 abbrev pub silence : List ℕ → Answer
@@ -24,15 +24,16 @@ pub record IsSafeAfter (terms : TermsView) (old new : State) : Type 0 where
   pub safe : IsSafeBy (original_of terms old) new
 
 -- a script was printed. From the session as it was opened each of its lines is accepted in silence,
--- and what they lead to is what the session is now; and that is safe by what it was. What can be
--- redone is what could be as it was opened, or nothing
+-- and what they lead to is what the session is now, but for what can be redone; and that is safe by
+-- what it was. If they made no step, they leave to redo what there was, and else nothing
 pub record IsGuarded (terms : TermsView) (opened : Machine) (script : List ℕ) (now : Machine)
     : Type 0
   where
     pub left : Machine
     pub runs : Runs opened (script_lines script) (map silence (script_lines script)) [] left
     pub same : Agrees left now
-    pub redo : RedoesNoMore opened now
+    pub redo : RedoesNoMore left now
+    pub made : IsSameOrMade opened left
     pub safe : IsSafeAfter terms opened.state now.state
 
 -- a comment, or a blank line
@@ -40,7 +41,8 @@ pub record IsRemark (line : List ℕ) : Type 0 where
   pub plain : IsPlain line
   pub asks : Asks command.Nothing line
 
--- lines were printed that lead from the session as it was opened to what it is now
+-- lines were printed that lead from the session as it was opened to what it is now. What they
+-- leave to redo can be redone now, or nothing can
 pub record Reaches (opened : Machine) (script : List ℕ) (now : Machine) : Type 0 where
   pub lines : List (List ℕ)
   pub plain : AllByRecursion IsPlain lines
@@ -48,7 +50,7 @@ pub record Reaches (opened : Machine) (script : List ℕ) (now : Machine) : Type
   pub left : Machine
   pub obeyed : ObeyedAll opened lines left
   pub same : Agrees left now
-  pub redo : RedoesNoMore opened now
+  pub redo : RedoesNoMore left now
 
 -- in this run memory did not run out, and no write failed
 abbrev pub MeetsNothing : List Answer → Type 0
@@ -56,11 +58,12 @@ MeetsNothing answers = AllByRecursion
     (λ a. (wants_memory a.reply ≡ false) × (tells_failed_put a.reply ≡ false)) answers
 
 -- each run of the script that was printed, from the session as it was opened, accepts every line in
--- silence and leads to the same state, cursor and past, unless memory runs out
+-- silence and leads to what the guarded run left, also of what can be redone, unless memory runs
+-- out
 abbrev pub PrintedIsObeyed : Type 0
 PrintedIsObeyed = (terms : TermsView) (opened : Machine) (script : List ℕ) (now : Machine)
-    → IsGuarded terms opened script now
+    → (guarded : IsGuarded terms opened script now)
     → (run : RunOf script) → work_in run.old ≡ work_in opened
     → MeetsNothing run.ran.answers
     → (run.ran.answers ≡ map silence (script_lines script))
-    × Agrees run.new now
+    × Agrees run.new now × (work_in run.new ≡ work_in guarded.left)

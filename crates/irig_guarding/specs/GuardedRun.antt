@@ -15,7 +15,8 @@ use Rattle.irig_guarding.specs.declared.product.GuardFault.TheVariants.{Dump, Re
 use Rattle.irig_guarding.specs.declared.product.GuardFault.TheVariants.{OutOfMemory, PrintFailed}
 use Rattle.irig_guarding.specs.declared.product.GuardFault.TheVariants.{WriteFailed}
 use Rattle.irig_guarding.specs.{Fillings.Fills, Guarded.IsGuarded, Reading.original_of}
-use Rattle.irig_guarding.specs.{Judged.is_judged_by, Trials.IsTried, declared.product.Kept.Kept}
+use Rattle.irig_guarding.specs.{Judged.is_judged_by, Trial.KeepsNone, Trials.IsTried}
+use Rattle.irig_guarding.specs.declared.product.Kept.{Kept}
 use Rattle.irig_guarding.specs.declared.product.Product.{Product}
 use Rattle.irig_guarding.specs.declared.product.Product.TheVariants as product
 
@@ -26,7 +27,8 @@ product_texts product.Track m = dump_text m ∷ []
 product_texts product.Session m = saved_text (work_in m) ∷ []
 
 -- the proposed script was run under guard, repair by repair: what it printed, what it left, its
--- status, and how many frames have a control function then that is not in the recording
+-- status, and how many frames have a control function then that is not in the recording. If no
+-- repair was kept, it left the session as it was opened, also what can be redone
 pub record Guards (terms : TermsView) (first : Machine) (script : Option (List ℕ)) : Type 0 where
   pub proposal : List ℕ
   pub whole : IfSome script (λ all. proposal ≡ all)
@@ -37,17 +39,19 @@ pub record Guards (terms : TermsView) (first : Machine) (script : Option (List �
   pub tried : IsTried terms first proposal printed status last
   pub filled : ℕ
   pub fillings : Fills (original_of terms first.state) last.state filled
+  pub unkept : KeepsNone tried.trials → work_in guarded.left ≡ work_in first
 
--- it was run, its result was printed, what is asked for was written if there was a frame to go by,
--- and the status says whether all of it was kept; or memory ran out, or a read failed, and nothing
--- was printed or written; or the printing failed, and nothing was written; or the writing failed
+-- it was run, its result was printed, what is asked for was written of what the printed script
+-- leaves, if there was a frame to go by, and the status says whether all of it was kept; or memory
+-- ran out, or a read failed, and nothing was printed or written; or the printing failed, and
+-- nothing was written; or the writing failed
 abbrev pub RunsUnderGuard : TermsView → Product → Machine → Option (List ℕ) → Desk → Desk
     → Result Kept GuardFault → Type 0
 RunsUnderGuard terms asked first script from to (Ok kept) =
     (run : Guards terms first script) × (run.status ≡ kept.status) × (run.filled ≡ kept.filled)
     × (kept.judged ≡ is_judged_by first.state run.last.state)
     × Appends from.out to.out run.printed
-    × Puts from.shelf to.shelf (if kept.judged then product_texts asked run.last else []) 0
+    × Puts from.shelf to.shelf (if kept.judged then product_texts asked run.guarded.left else []) 0
 RunsUnderGuard terms asked first script from to (Err PrintFailed) =
     (run : Guards terms first script) × AppendsFront from.out to.out run.printed
     × (to.shelf ≡ from.shelf)

@@ -5,6 +5,7 @@ pub mod Fillings
 pub mod Guarded
 pub mod GuardedRun
 pub mod Judged
+pub mod KeptText
 pub mod Known
 pub mod Meaning
 pub mod Others

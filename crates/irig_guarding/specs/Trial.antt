@@ -1,6 +1,6 @@
 -- A repair that is tried is kept, or it is dropped and undone. This project's own.
 use Rattle.std.specs.Prelude.{◌≡◌, ◌⊎◌, ℕ, List, [], ◌∷◌, Option, Some, None}
-use Rattle.std.specs.List.{flat_map}
+use Rattle.std.specs.List.{AllByRecursion, flat_map}
 use Rattle.irig_script.specs.{Obey.Machine.Machine}
 use Rattle.irig_guarding.specs.{Repair.ObeyedAll, Undone.IsUndone}
 use Rattle.irig_guarding.specs.Reading.{fine_frames}
@@ -33,6 +33,10 @@ abbrev pub TriesAll : OriginalView → Machine → List Trial → Machine → Ty
 TriesAll opened old [] new = new ≡ old
 TriesAll opened old (t ∷ trials) new =
     (mid : Machine) × Tries opened old t.lines t.dropped mid × TriesAll opened mid trials new
+
+-- none of them was kept, but for comments
+abbrev pub KeepsNone : List Trial → Type 0
+KeepsNone trials = AllByRecursion (λ t. t.dropped ≡ None → IsIdle t.lines) trials
 
 -- the lines of repairs
 abbrev pub proposed : List Trial → List (List ℕ)

@@ -105,6 +105,7 @@ fn guard_lines(
     requires opened { opened.now ≡ original_of opened.now.terms session.old.state }
     requires head { out.old.items ≡ unlines (head_lines opened.now.frames) }
     ensures stands { OnOk result (Reaches session.old out.new.items session.new) }
+    ensures closed { OnOk result (session.new.floor ≡ None) }
     ensures lists { OnOk result (Lists session.new.state last.new) }
     ensures safe { OnOk result (IsSafeAfter opened.now.terms session.old.state
         session.new.state) }

@@ -34,7 +34,7 @@ pub enum GuardFault {
     /// A read of the script failed, or memory ran out for it.
     #[error("S4 ReadFailed")]
     ReadFailed,
-    /// Memory ran out for the frames, or for what is printed.
+    /// Memory ran out for the frames, for what is printed, or for the text that is kept before.
     #[error("E11 OutOfMemory")]
     OutOfMemory,
     /// A write of the output failed, or took no byte.

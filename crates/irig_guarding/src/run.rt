@@ -8,13 +8,14 @@
 //! how a run ended: whether all of the script was accepted, and how many frames have control
 //! functions that are not in the recording. `floor ≡ None` in a contract: no group is open.
 
-ghost use Rattle.std.specs.Prelude.{◌≡◌, ◌≤◌, ◌^◌, ℕ, Err, List, None, Option, length, Ok};
-ghost use Rattle.std.specs.Prelude.{IfSome, OnErr, OnOk, [], ◌∷◌, if◌then◌else◌};
+ghost use Rattle.std.specs.Prelude.{◌≡◌, ◌≤◌, ◌^◌, ◌==◌, ℕ, Err, List, None, Option, length, Ok};
+ghost use Rattle.std.specs.Prelude.{IfOk, IfSome, OnErr, OnOk, [], ◌∷◌, if◌then◌else◌};
 ghost use Rattle.irig_edit.specs.Opened.Openings.{MayBeShort};
 ghost use Rattle.irig_vcd.specs.{Answer.bytes_of, Parts.dump_parts};
 ghost use Rattle.irig_vcd.specs.declared.fault.VcdFault.TheVariants.{OutOfMemory};
 ghost use Rattle.irig_guarding.specs.declared.product.GuardFault.TheVariants.{Dump};
-ghost use Rattle.irig_guarding.specs.GuardedRun.{GuardsOnDump, RunsUnderGuard, product_texts};
+ghost use Rattle.irig_guarding.specs.GuardedRun.{GuardsOnDump, RunsUnderGuard};
+ghost use Rattle.irig_guarding.specs.KeptText.{IsKept, texts_or};
 ghost use Rattle.irig_script.specs.Obey.Desk.{desk};
 ghost use Rattle.irig_text.specs.Shelved.{Puts};
 
@@ -25,8 +26,8 @@ use irig_edit::Session;
 use irig_print::put_all;
 use irig_recording::Recording;
 use irig_safety::Terms;
-use irig_text::{Shelf, ShelfFault, Text};
-use std::alloc::Global;
+use irig_text::{Bytes, Shelf, ShelfFault, Text};
+use std::alloc::{AllocError, Global};
 use std::io::{Read, Write};
 
 /// Opens a dump by what was read of it, its recording and the text of its journal (at most 2^28
@@ -66,10 +67,11 @@ pub fn guard_on_parts<R: Read, W: Write, S: Shelf>(
 
 /// Runs a proposed script on a session under guard, prints the script that is accepted to `out`,
 /// and writes what `product` asks for to the shelf, but nothing if there was no frame to go by.
-/// Returns how the run ended (`Kept`). The first
-/// step that fails ends it: `ReadFailed` for the script, `OutOfMemory` for the run, `PrintFailed`
-/// for `out`, of which a part can be printed then, and `WriteFailed` for the shelf. The error of a
-/// call says no more, so it is dropped.
+/// That is what the printed script leaves: a repair that is tried takes away what can be redone, so
+/// the text from before is kept, and written if no step was made. Returns how the run ended
+/// (`Kept`). The first step that fails ends it: `ReadFailed` for the script, `OutOfMemory` for that
+/// text or the run, `PrintFailed` for `out`, of which a part can be printed then, and `WriteFailed`
+/// for the shelf. The error of a call says no more, so it is dropped.
 pub fn guard_session<R: Read, W: Write, S: Shelf>(
     alloc: Global,
     session: &mut Session,
@@ -91,15 +93,46 @@ pub fn guard_session<R: Read, W: Write, S: Shelf>(
     let Ok(_) = script.read_to_end(&mut bytes) else {
         return Err(GuardFault::ReadFailed);
     };
+    let steps = session.steps_back();
+    let Ok(before) = text_before(session, product) else {
+        return Err(GuardFault::OutOfMemory);
+    };
     let Ok((printed, kept)) = guard(alloc, session, terms, bytes.as_slice()) else {
         return Err(GuardFault::OutOfMemory);
     };
     let Ok(()) = put_all(out, printed.as_slice()) else {
         return Err(GuardFault::PrintFailed);
     };
-    match write_if_judged(session, kept.judged, product, shelf) {
+    let unmade = text_if_unmade(session, steps, before);
+    match write_if_judged(session, kept.judged, unmade, product, shelf) {
         Ok(()) => Ok(kept),
         Err(_) => Err(GuardFault::WriteFailed),
+    }
+}
+
+/// The text of a session before repairs are tried, with its journal, if it is to be written and
+/// something can be redone: the first edit that is tried takes that away. `Err` means that memory
+/// ran out.
+fn text_before(session: &Session, product: Product) -> Result<Option<Vec<u8>>, AllocError>
+    ensures { IfOk result (λ kept. IsKept product session.now (bytes_of kept)) }
+{
+    if product == Product::Session && session.steps_forward() > 0 {
+        let text = session.saved()?;
+        return Ok(Some(text));
+    }
+    Ok(None)
+}
+
+/// The text that was kept before repairs were tried, if they made no step: if as many lead back as
+/// did then (`steps`). If they made one, none.
+fn text_if_unmade(session: &Session, steps: usize, before: Option<Vec<u8>>) -> Option<Vec<u8>>
+    ensures { bytes_of result
+        ≡ if length session.now.past == steps then bytes_of before else None }
+{
+    if session.steps_back() == steps {
+        before
+    } else {
+        None
     }
 }
 
@@ -108,31 +141,34 @@ pub fn guard_session<R: Read, W: Write, S: Shelf>(
 fn write_if_judged<S: Shelf>(
     session: &Session,
     judged: bool,
+    unmade: Option<Vec<u8>>,
     product: Product,
     shelf: &mut S,
 ) -> Result<(), ShelfFault>
     ensures ok { OnOk result (Puts (S.known shelf.old) (S.known shelf.new)
-        (if judged then product_texts product session.now else []) 0) }
+        (if judged then texts_or (bytes_of unmade) product session.now else []) 0) }
     ensures err { OnErr result (Puts (S.known shelf.old) (S.known shelf.new) [] 1) }
     ensures since { S.since shelf.old shelf.new }
     ensures nothing { product ≡ Product.Nothing → shelf.new ≡ shelf.old }
 {
     if judged {
-        write_product(session, product, shelf)
+        write_product(session, unmade, product, shelf)
     } else {
         Ok(())
     }
 }
 
 /// Writes what `product` asks for of a session to the shelf: nothing, its track, or its track with
-/// the journal. `Err` means that the write failed; none is made for nothing.
+/// the journal. If `unmade` is the text of that as it was before repairs were tried, that is
+/// written. `Err` means that the write failed; none is made for nothing.
 fn write_product<S: Shelf>(
     session: &Session,
+    unmade: Option<Vec<u8>>,
     product: Product,
     shelf: &mut S,
 ) -> Result<(), ShelfFault>
     ensures ok { OnOk result (Puts (S.known shelf.old) (S.known shelf.new)
-        (product_texts product session.now) 0) }
+        (texts_or (bytes_of unmade) product session.now) 0) }
     ensures err { OnErr result (Puts (S.known shelf.old) (S.known shelf.new) [] 1) }
     ensures since { S.since shelf.old shelf.new }
     ensures nothing { product ≡ Product.Nothing → shelf.new ≡ shelf.old }
@@ -140,7 +176,10 @@ fn write_product<S: Shelf>(
     match product {
         Product::Nothing => Ok(()),
         Product::Track => write(&mut session.text_parts(), shelf),
-        Product::Session => write(&mut session.saved_parts(), shelf),
+        Product::Session => match unmade {
+            Some(text) => write(&mut Bytes::new(text.as_slice()), shelf),
+            None => write(&mut session.saved_parts(), shelf),
+        },
     }
 }
 

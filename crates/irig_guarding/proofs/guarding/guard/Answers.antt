@@ -5,7 +5,8 @@ use Rattle.irig_guarding.proofs.guarding.guard.Goals as goal
 
 pub returns-clause-guarded : goal.returns-clause-guarded
 returns-clause-guarded c =
-    stands_guarded c.args.terms _ _ _ _ (ap (λ (o : OriginalView). o.terms) c.in_ok-opened.ensures) c.in_ok-status.ensures.stands c.in_ok-status.ensures.safe
+    stands_guarded c.args.terms _ _ _ _ (ap (λ (o : OriginalView). o.terms) c.in_ok-opened.ensures) c.requires c.in_ok-status.ensures.closed
+    c.in_ok-status.ensures.stands c.in_ok-status.ensures.safe
 
 pub returns-clause-tried : goal.returns-clause-tried
 returns-clause-tried c =

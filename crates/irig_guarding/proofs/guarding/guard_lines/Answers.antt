@@ -30,6 +30,9 @@ loop-at-preserved c =
       c.guard_repair.ensures.lists,
     )
 
+pub returns-clause-closed : goal.returns-clause-closed
+returns-clause-closed c = c.loop-at.invariant.3
+
 pub returns-clause-lists : goal.returns-clause-lists
 returns-clause-lists c = c.loop-at.invariant.7
 
