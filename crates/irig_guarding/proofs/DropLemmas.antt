@@ -1,5 +1,5 @@
 -- Why a repair is dropped.
-use Rattle.std.proofs.Common.{◌≡◌, ◌≢◌, ◌+◌, ◌<◌, ◌++◌, ℕ, Bool, false, List, [], ◌∷◌, Option, Some, None, length, drop, take}
+use Rattle.std.proofs.Common.{◌≡◌, ◌≢◌, ◌+◌, ◌<◌, ◌≤◌, ◌++◌, ℕ, Bool, false, List, [], ◌∷◌, Option, Some, None, length, drop, take, arith}
 use Rattle.std.proofs.Common.{get_or, refl, ap, sym, ◌∙◌, subst, inl, inr, append_assoc}
 use Rattle.std.specs.Prelude.{◌↔◌, ◌⊎◌, IsTrue, MatchOption, OnErr, OnOk, Result, Ok, Err}
 use Rattle.std.proofs.lemmas.List.{drop_more, map-append, take-append-drop}
@@ -12,7 +12,7 @@ use Rattle.irig_script.specs.{Obey.Machine.Machine, Obey.Obeying.Obeys, Obey.Rep
 use Rattle.irig_script.specs.declared.print.reply.Reply.TheVariants as told
 use Rattle.irig_guarding.specs.Repair.{Asks, IsBeyond, IsRepair, Obeyed, ObeyedAll, texts}
 use Rattle.irig_guarding.specs.RepairLines.{AsksFor, IsInner, MayBeKept}
-use Rattle.irig_guarding.specs.Drops.{Drops, Holds, IsRefusedAt, StopsAt, StopsIn, Sways}
+use Rattle.irig_guarding.specs.Drops.{AreMade, Drops, Holds, IsRefusedAt, StopsAt, StopsIn, Sways}
 use Rattle.irig_guarding.specs.Cutting.{IsClosing}
 use Rattle.irig_guarding.specs.declared.reason.Reason.TheVariants.{NoRepair, NotSafe, OutOfMemory, Refused}
 use Rattle.irig_guarding.specs.{declared.reason.Reason.Reason, declared.line.Line.Line}
@@ -178,6 +178,17 @@ group_stopped opened before a b first last inner (Refused why) begins ends begun
 group_stopped opened before a b first last inner OutOfMemory begins ends begun h = absurd h
 group_stopped opened before a b first last inner (NotSafe why) begins ends begun h = absurd h
 
+abbrev group_made : (a b c : Machine) (first last : List ℕ) (inner : List (List ℕ)) → Asks command.Begin first → Asks command.End last
+    → Calls Call.Begin a told.Silent b → ObeyedAll b inner c → AreMade a (first ∷ (inner ++ last ∷ []))
+group_made a b c first last inner begins ends begun all = record {
+  front = first ∷ inner;
+  rest = last ∷ [];
+  whole = refl;
+  ends = (ends, tt);
+  mid = c;
+  obeyed = (b, (command.Begin, begins, tt, begun), all);
+}
+
 pub group_held : (opened : OriginalView) (before : List Shown) (a b c : Machine) (first last : List ℕ) (inner : List (List ℕ)) (reason : Reason)
     → Asks command.Begin first → Asks command.End last → Calls Call.Begin a told.Silent b → ObeyedAll b inner c → Holds opened before c reason
     → Drops opened before a (first ∷ (inner ++ last ∷ [])) reason
@@ -191,27 +202,26 @@ group_held opened before a b c first last inner (Refused why) begins ends begun 
   obeyed = (b, (command.Begin, begins, tt, begun), all);
   refused = (command.End, ends, h);
 }
-group_held opened before a b c first last inner OutOfMemory begins ends begun all h = tt
-group_held opened before a b c first last inner (NotSafe why) begins ends begun all h = record {
-  front = first ∷ inner;
-  rest = last ∷ [];
-  whole = refl;
-  ends = (ends, tt);
-  mid = c;
-  obeyed = (b, (command.Begin, begins, tt, begun), all);
-  unsafe = h.0;
-  fault = h.1;
-}
+group_held opened before a b c first last inner OutOfMemory begins ends begun all h = group_made a b c first last inner begins ends begun all
+group_held opened before a b c first last inner (NotSafe why) begins ends begun all h = (group_made a b c first last inner begins ends begun all, h.0, h.1)
 
 -- a line that was obeyed and is dropped
+abbrev line_made : (a b : Machine) (line : List ℕ) → ObeyedAll a (line ∷ []) b → AreMade a (line ∷ [])
+line_made a b line h = record { front = line ∷ []; rest = []; whole = refl; ends = tt; mid = b; obeyed = h }
+
 pub line_swayed : (opened : OriginalView) (before : List Shown) (a b : Machine) (line : List ℕ) (reason : Reason) → ObeyedAll a (line ∷ []) b
     → Sways opened before b.state reason
     → Drops opened before a (line ∷ []) reason
 line_swayed opened before a b line NoRepair h k = absurd k
 line_swayed opened before a b line (Refused why) h k = absurd k
-line_swayed opened before a b line OutOfMemory h k = tt
-line_swayed opened before a b line (NotSafe why) h k =
-    record { front = line ∷ []; rest = []; whole = refl; ends = tt; mid = b; obeyed = h; unsafe = k.0; fault = k.1 }
+line_swayed opened before a b line OutOfMemory h k = line_made a b line h
+line_swayed opened before a b line (NotSafe why) h k = (line_made a b line h, k.0, k.1)
+
+-- the text of one line alone
+pub one_text : (xs : List Line) (x : Line) → 1 ≤ length xs → length xs < 2 → x ≡ get_or xs 0 x → texts xs ≡ x.bytes.items ∷ []
+one_text [] x least below is = absurd (omega (arith, least))
+one_text (y ∷ []) x least below is = ap (λ (z : Line). z.bytes.items ∷ []) (sym is)
+one_text (y ∷ z ∷ ys) x least below is = absurd (omega (arith, below))
 
 -- an edit is made or refused
 pub edit_replies : (c : Command) (old new : Machine) (r : Reply) → IsRepair c → Obeys c old r new → (r ≡ told.Silent → ⊥)

@@ -8,11 +8,10 @@ use Rattle.irig_lines.specs.declared.command.Command.TheVariants as command
 use Rattle.irig_script.specs.{Obey.Machine.Machine, Obey.Obeying.Obeys, Obey.Replies.Calls}
 use Rattle.irig_script.specs.declared.print.reply.Reply.TheVariants as told
 use Rattle.irig_guarding.specs.Repair.{Asks, ObeyedAll}
-use Rattle.irig_guarding.specs.declared.reason.Reason.TheVariants.{NoRepair, NotSafe, OutOfMemory}
-use Rattle.irig_guarding.specs.declared.reason.Reason.TheVariants.{Refused}
+use Rattle.irig_guarding.specs.declared.reason.Reason.TheVariants.{NoRepair, NotSafe}
+use Rattle.irig_guarding.specs.declared.reason.Reason.TheVariants.{OutOfMemory, Refused}
 use Rattle.irig_guarding.specs.declared.reason.Reason.{Reason}
-use Rattle.irig_safety.specs.{declared.fault.Fault.Fault}
-use Rattle.irig_safety.specs.{Original.OriginalView}
+use Rattle.irig_safety.specs.{Original.OriginalView, declared.fault.Fault.Fault}
 use Rattle.irig_safety.specs.declared.shown.Shown.{Shown}
 use Rattle.irig_guarding.specs.RepairLines.{AsksFor, IsInner, MayBeKept}
 use Rattle.irig_guarding.specs.Stays.{MayStay, HasFault}
@@ -32,19 +31,19 @@ pub record IsRefusedAt (old : Machine) (lines : List (List ℕ)) (why : Refusal)
   pub obeyed : ObeyedAll old front mid
   pub refused : Refuses mid line why
 
--- the lines are obeyed, but for the end of a group, and what they lead to may not stay
-pub record IsUnsafe (opened : OriginalView) (last : List Shown) (old : Machine)
-    (lines : List (List ℕ))
-    (why : Fault) : Type 0
-  where
-    pub front : List (List ℕ)
-    pub rest : List (List ℕ)
-    pub whole : lines ≡ front ++ rest
-    pub ends : AllByRecursion (Asks command.End) rest
-    pub mid : Machine
-    pub obeyed : ObeyedAll old front mid
-    pub unsafe : MayStay opened last mid.state → ⊥
-    pub fault : HasFault opened last mid.state why
+-- the lines are obeyed, but for the end of a group
+pub record AreMade (old : Machine) (lines : List (List ℕ)) : Type 0 where
+  pub front : List (List ℕ)
+  pub rest : List (List ℕ)
+  pub whole : lines ≡ front ++ rest
+  pub ends : AllByRecursion (Asks command.End) rest
+  pub mid : Machine
+  pub obeyed : ObeyedAll old front mid
+
+-- they are, and what they lead to may not stay
+abbrev pub IsUnsafe : OriginalView → List Shown → Machine → List (List ℕ) → Fault → Type 0
+IsUnsafe opened last old lines why = (made : AreMade old lines)
+    × (MayStay opened last made.mid.state → ⊥) × HasFault opened last made.mid.state why
 
 -- why a line in a group stops it
 abbrev pub StopsAt : Machine → List ℕ → Reason → Type 0
@@ -71,10 +70,10 @@ Holds opened last old (Refused why) =
     (after : Machine) × Calls Call.End old (told.Refused why) after
 Holds opened last old reason = Sways opened last old.state reason
 
--- why a repair is dropped: it is none; or the editor refuses a line of it; or memory runs out; or
--- what it leads to may not stay
+-- why a repair is dropped: it is none; or the editor refuses a line of it; or memory runs out for
+-- what its lines lead to; or that may not stay
 abbrev pub Drops : OriginalView → List Shown → Machine → List (List ℕ) → Reason → Type 0
 Drops opened last old lines NoRepair = MayBeKept lines → ⊥
 Drops opened last old lines (Refused why) = IsRefusedAt old lines why
-Drops opened last old lines OutOfMemory = Unit {0}
+Drops opened last old lines OutOfMemory = AreMade old lines
 Drops opened last old lines (NotSafe why) = IsUnsafe opened last old lines why

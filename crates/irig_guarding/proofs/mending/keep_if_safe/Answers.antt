@@ -1,7 +1,7 @@
 use Rattle.std.proofs.Common.{◌≡◌, ◌∙◌, List, ℕ, true, false, subst, sym}
 use Rattle.std.specs.Prelude.{IfErr, OnOk}
 use Rattle.irig_guarding.specs.{Repair.ObeyedAll, Drops.Drops, RepairLines.MayBeKept}
-use Rattle.irig_guarding.proofs.{DropLemmas.group_no_repair, GuardLemmas.ends_of, GuardLemmas.group_obeyed, GuardLemmas.on_ok, GuardLemmas.texts_of_ends, RepairLemmas.one_obeyed}
+use Rattle.irig_guarding.proofs.{DropLemmas.group_no_repair, DropLemmas.one_text, GuardLemmas.ends_of, GuardLemmas.group_obeyed, GuardLemmas.on_ok, GuardLemmas.texts_of_ends, RepairLemmas.one_obeyed}
 use Rattle.irig_guarding.proofs.mending.keep_if_safe.Goals as goal
 
 pub returns-then-not-begins-clause-drops : goal.returns-then-not-begins-clause-drops
@@ -41,3 +41,9 @@ pub returns-in-len1-clause-made : goal.returns-in-len1-clause-made
 returns-in-len1-clause-made c =
     on_ok c.keep_line_if_safe.result c.keep_line_if_safe.ensures.made
     (λ k. one_obeyed c.args.repair.now c.line-item.result _ _ c.in-len1.len_at_least c.in-len1.len_below c.line-item.is k)
+
+pub returns-in-len1-clause-drops : goal.returns-in-len1-clause-drops
+returns-in-len1-clause-drops c = λ other.
+    let all = one_text c.args.repair.now c.line-item.result c.in-len1.len_at_least c.in-len1.len_below c.line-item.is in
+    subst (λ (l : List (List ℕ)). IfErr c.keep_line_if_safe.result (Drops c.args.opened.now c.args.before.now c.args.session.now l)) (sym all)
+    (c.keep_line_if_safe.ensures.drops (λ asks. other (c.line-item.result.bytes.items, all, asks)))
