@@ -7,10 +7,11 @@ import os
 import random
 import subprocess
 import tempfile
+from unittest import mock
 
 from built import TOP
 from cases import case
-from irig_tools import analysis, edits, mend, readings, search, spans
+from irig_tools import analysis, edits, mend, readings, search, spans, unread
 from irig_tools.check import Check, Moved
 from irig_tools.editor import Editor, Listing
 from irig_tools.layout import Layout
@@ -337,6 +338,11 @@ def of_unread():
     read = readings.Readings([readings.Reading("B", expression) for expression in range(8)])
     readings._choose_led(listed(steady), read)
     yield same("no time code", [row.led for row in read.rows], [0] * 8)
+    bursts = [[1000 * at + 2984000 * (at // 16), 1000 * at + 2984000 * (at // 16) + 500] for at in range(320)]
+    with mock.patch.object(unread, "examine") as examined:
+        read = readings.Readings([readings.Reading("A", expression) for expression in range(8)])
+        readings._choose_led(listed(bursts, "A"), read)
+        yield same("a clock in bursts, which has no position identifier", ([row.led for row in read.rows], examined.call_count), ([0] * 8, 0))
 
 
 def cases():

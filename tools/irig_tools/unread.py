@@ -29,7 +29,7 @@ def led(listing: Listing, kind: str, expression: int) -> Led:
     some = replace(listing, kind=kind, expression=expression, rises=listing.rises[:many], falls=listing.falls[:many],
                    classes=listing.classes[:many], length=beyond[0] if beyond else listing.length)
     some = levelled(some, layout)
-    if ten_apart(some.classes) < limits.SOME_TEN_APART * some.classes.count("P"):  # which would take long, and lead to nothing
+    if ten_apart(some.classes) <= limits.SOME_TEN_APART * some.classes.count("P"):  # which would take long, and lead to nothing
         return Led(0, 0, Counter())
     found = [each for part in examine(some).parts for each in _frames_that_fit(part.times)]
     return Led(len(found), sum(against for against, _ in found), Counter(year for _, year in found if layout.with_year))
