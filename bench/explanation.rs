@@ -39,7 +39,7 @@ fn look(pulse: &Pulse, element: usize) -> u64 {
     widths(element).iter().map(|(width, more)| off(*width) + more).min().unwrap()
 }
 
-/// What the distance costs if it is of so many elements: off the line, and those without a pulse.
+/// What the distance costs if it is of this many elements: off the line, and those without a pulse.
 fn distance(off: i64, elements: i64) -> u64 {
     let late = (8 * (off.abs() * 50 / INTERVAL).pow(2)).min(80) as u64;
     late + if elements == 1 { 0 } else { 72 + 13 * u64::from(64 - elements.leading_zeros()) }

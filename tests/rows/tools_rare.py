@@ -338,6 +338,11 @@ def of_unread():
     read = readings.Readings([readings.Reading("B", expression) for expression in range(8)])
     readings._choose_led(listed(steady), read)
     yield same("no time code", [row.led for row in read.rows], [0] * 8)
+    yield from of_bursts()
+
+
+def of_bursts():
+    """A clock in bursts has no position identifier, so nothing is looked for on its wire."""
     bursts = [[1000 * at + 2984000 * (at // 16), 1000 * at + 2984000 * (at // 16) + 500] for at in range(320)]
     with mock.patch.object(unread, "examine") as examined:
         read = readings.Readings([readings.Reading("A", expression) for expression in range(8)])

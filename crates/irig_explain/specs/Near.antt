@@ -2,7 +2,7 @@
 use Rattle.std.specs.Prelude.{ℕ, ◌≡◌, ◌+◌, ◌<◌, ◌≤◌, List, Some, length, slice_get}
 use Rattle.irig_explain.specs.declared.{near.Near.Near, nodes.Node.Node}
 
--- so many nodes at the beginning of a list are of rises before one, and the others are not
+-- this many nodes at the beginning of a list are of rises before one, and the others are not
 pub record IsSplit (nodes : List Node) (q count : ℕ) : Type 0 where
   pub below : count ≤ length nodes
   pub before : (u : ℕ) (m : Node) → slice_get nodes u ≡ Some m → u < count → m.rise < q

@@ -16,7 +16,7 @@ pub enum Kind {
 pub struct Claim {
     /// The number of the rise in the recording, from 0.
     pub rise: usize,
-    /// The number of the element, from 0. What else the caller wants to tell apart can be in it.
+    /// The number of the element, from 0. What else the caller wants to part can be in it.
     pub element: usize,
     /// The kind of the step from the claim before.
     pub kind: Kind,

@@ -1,4 +1,4 @@
-//! The rises that are to be explained.
+//! What is explained.
 
 ghost use Rattle.std.specs.Prelude.{◌≡◌, ◌*◌, ◌^◌, ◌<◌, ◌≤◌};
 
@@ -7,7 +7,7 @@ ghost use Rattle.std.specs.Prelude.{◌≡◌, ◌*◌, ◌^◌, ◌<◌, ◌≤
 pub struct Rises {
     /// How many there are.
     pub count: usize,
-    /// How many elements a claim can name: those of a frame, or of what else is to be told apart.
+    /// How many elements a claim can name: those of a frame, or what else the caller wants to part.
     pub states: u32,
     /// From a claim the next one is at most this many rises away.
     pub window: usize,
