@@ -347,7 +347,7 @@ def of_bursts():
     with mock.patch.object(unread, "examine") as examined:
         read = readings.Readings([readings.Reading("A", expression) for expression in range(8)])
         readings._choose_led(listed(bursts, "A"), read)
-        yield same("a clock in bursts, which has no position identifier", ([row.led for row in read.rows], examined.call_count), ([0] * 8, 0))
+        yield same("a clock in bursts, without an identifier", ([row.led for row in read.rows], examined.call_count), ([0] * 8, 0))
 
 
 def cases():

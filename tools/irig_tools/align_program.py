@@ -13,7 +13,7 @@ from typing import IO, Iterator, List, Optional, Tuple
 from .align_frames import TRACK_PULSES, LongTrack
 from .align_lines import PICOS, UNIT_PLACES, LineTimes, each_line, offset_of_lines, offset_text, pattern_of
 from .align_runs import Aligner, AlignerEnded, AlignerRun, Call
-from .align_tally import LineTally, Widths
+from .align_tally import ColumnCounts, LineTally
 from .align_years import years_of
 from .command import run, unchanged
 from .editor import Problem, called, find_beside, progress_to
@@ -165,7 +165,7 @@ class LongAlignment:
         looked = self.aligner.run([asked], "looking at the track")[0].checked()
         self.is_other_unit = OTHER_UNIT in looked.said
         comma = given.text(COMMA)
-        self.widths = Widths(comma.encode() if comma else None, header[-1][0] if header else None)
+        self.widths = ColumnCounts(comma.encode() if comma else None, header[-1][0] if header else None)
         out.write(looked.printed())
         if header and not header[-1][1]:
             return self.too_long()

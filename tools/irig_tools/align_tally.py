@@ -23,7 +23,7 @@ def length_said(said: str) -> int:
     return int(found[1]) * MICROS_A_SECOND + int(found[2] or 0) if found else 0
 
 
-class Widths:
+class ColumnCounts:
     """Whether lines have as many columns as the last line of the header, if a byte parts them."""
 
     def __init__(self, comma: Optional[bytes], header: Optional[bytes]) -> None:
