@@ -105,8 +105,7 @@ def in_any_size():
                 (odd.encode(), ["--comma=;", "--unit=100ns", "--offset=-1.0005E+07"]),
                 (csv.encode(), ["--comma=,", column, "--header=2", "--name=UTC", "--unit=s", "--offset=-4.5", "--form=calendar"]),
                 (headed.encode(), ["--comma=,", "--header=1"]), (headed.encode(), ["--comma=,", "--header=1", "--unit=ms", "--quiet"]),
-                (headed.encode(), ["--header=1", "--unit=ms"]), (lines, [column, "--expression=0"]), (b"", []),
-                (b"time\n", ["--header=3"])):
+                (headed.encode(), ["--header=1", "--unit=ms"]), (lines, [column, "--expression=0"]), (b"", []), (b"t\n", ["--header=3"])):
             words = [*CODE[:1], *words, *[CODE[1]] * ("--expression=0" not in words), "track.vcd"]
             wanted = whole(words, given)
             for size in SIZES:
