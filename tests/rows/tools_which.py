@@ -82,6 +82,19 @@ def of_sounds():
         yield from in_folder(lambda: list(holds()))
 
 
+def of_a_long_sound():
+    """Of a channel on a carrier the first 2^18 samples are looked at; its seconds are those."""
+    values, _ = signal("B", random.Random("long sound"), 8000, 1000, 3.3, 0.02, 0.001, 0, 36)
+
+    def holds():
+        with open("rec.wav", "wb") as file:
+            file.write(wav(values, 8000))
+        _, printed, _ = run("irig_what", ["rec.wav"])
+        yield same("how long it was looked at", printed.decode().splitlines()[1].split(" in ")[1], "32.768000 seconds")
+
+    return in_folder(lambda: list(holds()))
+
+
 def in_a_shell(command):
     """The status of a command line with the tools and irig_time."""
     path = os.pathsep.join([os.path.join(TOP, "tools"), os.path.dirname(TIME), os.environ["PATH"]])
@@ -183,6 +196,7 @@ def read_once():
 def cases(top):
     """Each kind by its name."""
     return [case("which: " + name, holds) for name, holds in (
-        ("tables", of_tables), ("sound files", of_sounds), ("the chain of commands", chain_of_commands),
+        ("tables", of_tables), ("sound files", of_sounds), ("a long sound file", of_a_long_sound),
+        ("the chain of commands", chain_of_commands),
         ("the chain of a file of sigrok", chain_of_sigrok), ("a channel alone", channel_alone), ("other files", of_other_files),
         ("each row once", read_once))]

@@ -29,6 +29,7 @@ class Lane:
     words: List[str] = field(default_factory=list)  # with which irig_demodulate reads it
     is_carrier: bool = False
     edges: "array[int]" = field(default_factory=lambda: array("q"))
+    until: int = 0  # up to which it was looked at, of a channel
 
 
 class KeptSamples(Samples):
@@ -46,6 +47,10 @@ class KeptSamples(Samples):
         many = min(MOST_LOOKED, max(LEAST_LOOKED, round(seconds * self.rate)))
         return KeptSamples(self.path, self.values[:many], self.kind, self.rate, self.begun)
 
+    def end(self) -> int:
+        """The time after the last of them."""
+        return round(self.begun + MICROSECONDS * len(self.values) / self.rate)
+
 
 def lane_of(text: str, words: Sequence[str], samples: KeptSamples) -> Optional[Lane]:
     """A channel in the first way in which it looks like time code: as a level, or on a carrier. A level comes first: pulses that are high
@@ -53,14 +58,17 @@ def lane_of(text: str, words: Sequence[str], samples: KeptSamples) -> Optional[L
     if not samples.values or min(samples.values) == max(samples.values):
         return None
     for kind in INTERVAL:
-        level = Levels(samples.begin_of(_seconds_of(kind)))
-        lane = Lane(text, [*words, "--level"], False, _edge_times(level.samples, level.edges()))
+        begin = samples.begin_of(_seconds_of(kind))
+        level = Levels(begin)
+        lane = Lane(text, [*words, "--level"], False, _edge_times(level.samples, level.edges()), begin.end())
         if _looks_like(lane, kind):
             return lane
     for kind, hertz in [(kind, hertz) for kind in "BAE" for hertz in CARRIERS[kind]]:
         with suppress(Problem):  # too few samples for this carrier, or too many
-            carrier = Carrier(samples.begin_of(_seconds_of(kind)), hertz, kind)
-            lane = Lane(text, [*words, *_words_of(kind, hertz)], True, _edge_times(carrier.samples, carrier.edges()))
+            begin = samples.begin_of(_seconds_of(kind))
+            carrier = Carrier(begin, hertz, kind)
+            edges = _edge_times(carrier.samples, carrier.edges())
+            lane = Lane(text, [*words, *_words_of(kind, hertz)], True, edges, begin.end())
             if _looks_like(lane, kind):
                 return lane
     return None

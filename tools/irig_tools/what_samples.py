@@ -115,4 +115,5 @@ def _parts_of_sound(path: str, one: Samples, parts: Iterator[Tuple[Sequence[floa
         lanes = [lane_of("channel %d" % number, ["--channel", str(number)] * (one.channels > 1),
                          KeptSamples(path, values, one.kind, one.rate, begun)) for number, values in enumerate(part, 1)]
         begun += MICROSECONDS * len(part[0]) / one.rate
-        yield [lane for lane in lanes if lane], round(begun)
+        found = [lane for lane in lanes if lane]
+        yield found, max([lane.until for lane in found], default=round(begun))
