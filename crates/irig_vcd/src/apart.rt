@@ -1,14 +1,4 @@
-//! Values on other codes of one byte. They are skipped, with the newline after them.
-//!
-//! A dump names each wire by a code, a short text after each value. `code` is that of the wire that
-//! is read; a value on another code, one "apart", says nothing of it. `source` is text of the dump;
-//! places are those of bytes in it, from 0. A byte is dark if it is above 32, a space: white space
-//! is never dark, and all bytes of words are dark but for a few that are rare. What is not taken
-//! here (`false` or `None`) is read by the way for any token, which is slower.
-//!
-//! In contracts, `is_low` says that a byte is not dark. `words_from` are the words of bytes that
-//! begin at a place: `false` says that the byte before is not of a word, `true` that its word goes
-//! on there. `Takes..` says which word was taken of them.
+//! Values on other codes of one byte, which are skipped with the newline after them.
 
 ghost use Rattle.std.specs.Prelude.{◌≡◌, ◌≤◌, ◌<◌, ◌+◌, ◌∷◌, ◌↔◌, [], true, false, length, drop};
 ghost use Rattle.std.specs.Prelude.{◌⊎◌, ℕ, map, slice_index, IfSome};
@@ -18,7 +8,6 @@ ghost use Rattle.irig_vcd.specs.{Code.Lanes.is_low, Words.words_from, Words.kind
 
 use std::simd::prelude::*;
 
-/// Whether a code has one byte, and it is this one.
 #[inline(always)]
 fn is_byte(code: &[u8], byte: u8) -> bool
     ensures { (result ≡ true) ↔ (code.now ≡ byte ∷ []) }
@@ -29,9 +18,7 @@ fn is_byte(code: &[u8], byte: u8) -> bool
     }
 }
 
-/// Whether three bytes are at the place `start`: a value, 0 or 1, a code of one printable byte that
-/// is not the wire's, and a newline. The text has three bytes from there on (`room`), so nothing is
-/// read past its end.
+/// A value, 0 or 1, a printable code of one byte that is not the wire's, and a newline.
 #[inline(always)]
 fn is_apart(source: &[u8], start: usize, code: &[u8]) -> bool
     requires room { start + 3 ≤ length source.now }
@@ -49,9 +36,7 @@ fn is_apart(source: &[u8], start: usize, code: &[u8]) -> bool
     source[start + 2] == b'\n'
 }
 
-/// A number of 16 bits: bit k is set if byte k of the 16 is not dark, that is, at most 32. Besides
-/// white space that may be a byte of a word, which is rare; the value is then left to the slower
-/// way.
+/// Bit k is set if byte k is at most 32: white space, or a rare byte of a word.
 #[inline(always)]
 fn spaces(bytes: u8x16) -> u64
     ensures { result ≡ mask_l (map is_low bytes) }
@@ -59,9 +44,7 @@ fn spaces(bytes: u8x16) -> u64
     bytes.simd_le(u8x16::splat(b' ')).to_bitmask()
 }
 
-/// How many bytes from the place `from` on are dark, up to the first that is not: 0 to 15; or 16 if
-/// all of the 16 bytes are, which are compared at once. The caller has tested that the text has 16
-/// bytes from there on.
+/// How many bytes from the place `from` on are above 32, up to the first that is not: 0 to 16.
 #[inline(always)]
 fn dark_count(source: &[u8], from: usize) -> usize
     requires { from + 16 ≤ length source.now }
@@ -76,10 +59,8 @@ fn dark_count(source: &[u8], from: usize) -> usize
     found.trailing_zeros() as usize
 }
 
-/// The place of the first byte from `from` on that is not dark: the end of a word of which the byte
-/// before `from` is. 16 bytes are compared at a time. If fewer are left it stops there, still in
-/// the word: so the caller looks whether a space is at the place. Never inlined, for speed: the
-/// loop over the tokens, which seldom comes here, so keeps its values in registers.
+/// Where a word ends that goes on at `from`, or a place in it if fewer than 16 bytes are left.
+/// Never inlined: so the loop over the tokens keeps its values in registers.
 #[inline(never)]
 fn dark_end(source: &[u8], from: usize) -> usize
     requires { from ≤ length source.now }
@@ -98,8 +79,7 @@ fn dark_end(source: &[u8], from: usize) -> usize
     at
 }
 
-/// Whether a vector, a real or a text begins with this byte: `b`, `r` or `s`, or one of these as a
-/// capital.
+/// Whether a vector, a real or a text begins with this byte.
 #[inline(always)]
 fn begins_value(byte: u8) -> bool
     ensures kind { result ≡ takes_code (kind_of_byte byte) }
@@ -108,10 +88,8 @@ fn begins_value(byte: u8) -> bool
     matches!(byte, b'b' | b'B' | b'r' | b'R' | b's' | b'S')
 }
 
-/// The place after a vector, a real or a text on another code than the wire's, which begins at
-/// `start`: after its value, one space, a code of one dark byte, and a newline. The bytes of the
-/// value are not looked at: on another code they may be any. `None` if something else is there, or
-/// if too few bytes are left: then `dark_end` may stop in the value.
+/// The place after a vector, a real or a text on another code of one byte, whatever its value is.
+/// `None` also if too few bytes are left.
 #[inline(always)]
 fn value_apart(source: &[u8], start: usize, code: &[u8]) -> Option<usize>
     requires { start < length source.now }
@@ -134,10 +112,8 @@ fn value_apart(source: &[u8], start: usize, code: &[u8]) -> Option<usize>
     Some(space + 3)
 }
 
-/// The place after a value on another code, with that code and a newline; the value begins at
-/// `start`. It is a 0 or a 1 (`is_apart`), or else a vector, a real or a text (`value_apart`). It
-/// gives the wire no level. `None` if both functions find something else there, also if the code is
-/// the wire's or has more than one byte. The shortest such value has three bytes (`room`).
+/// The place after a value on another code of one byte, and its newline. `None`: something else is
+/// there, which the slower way for any token reads.
 #[inline(always)]
 pub fn end_apart(source: &[u8], start: usize, code: &[u8]) -> Option<usize>
     requires room { start + 3 ≤ length source.now }

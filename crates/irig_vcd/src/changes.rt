@@ -1,20 +1,4 @@
 //! The changes of a wire, token by token: what comes after the declarations of a dump.
-//!
-//! A token is a word of the dump, a run of bytes without white space; `tokens` are those that are
-//! left. `code` is that of the wire that is read. A clock is a time of the dump, in its `unit`. The
-//! trace follows the level of the wire and keeps its edges; `trace.put` gives it the level (`true`
-//! is high) from a microsecond on. `journals` has the places of the journals so far. A dump may
-//! come in parts: `pending` is what is open after the last token of a part, a value without its
-//! code or a comment without its end. An error is the first fault of the changes, or that memory
-//! ran out; then all that was read so far is given up.
-//!
-//! In contracts, a scan `s` is what the words so far say, and `IsAt` says that clock, trace and the
-//! others hold that. `end` is where all words lead: what they say, and their first fault or none.
-//! `Leads` says that the tokens that are left lead there; `Scans` that they still do after a call,
-//! or that its error is that fault, or memory ran out. `IsOn` says that no change in the trace is
-//! after the clock.
-//!
-//! Where `match` hands an error on, `?` would do the same; the proof of it takes longer.
 
 ghost use Rattle.std.specs.Prelude.{◌≡◌, ◌≤◌, ◌∷◌, [], Option, length, IfOk, OnOk};
 ghost use Rattle.irig_vcd.specs.Code.Token.{kind_view, word_of};
@@ -33,10 +17,8 @@ use crate::token::{Kind, Token, Tokens};
 use crate::trace::Trace;
 use crate::unit::Unit;
 
-/// Reads all tokens of a part of the dump, or of all of it, and returns the time after them; `from`
-/// is the time before them. First comes what belongs to something that is open from the part before
-/// (`resume`), then the rest (`follow_on`). What is open at the end is in `pending`. Never inlined,
-/// for speed: so it has all registers of the machine.
+/// Reads all tokens of a part, and returns the time after them; `from` is the time before them.
+/// Never inlined, for speed: so it has all registers of the machine.
 #[inline(never)]
 pub fn follow(
     tokens: &mut Tokens,
@@ -61,11 +43,7 @@ pub fn follow(
     }
 }
 
-/// Takes the first tokens of a part, if something is open from the part before: the code of a
-/// value, or the rest of a comment (`take_open`). If nothing is open, it takes none. If the value
-/// gives the wire a level, that goes into the trace at the time `clock`. If something is open after
-/// this, the tokens did not suffice and none is left. An error is one of `take_open`, or that
-/// memory ran out.
+/// Takes what ends the value or the comment that is open from the part before, if one is.
 fn resume(
     tokens: &mut Tokens,
     unit: Unit,
@@ -90,11 +68,7 @@ fn resume(
     Ok(())
 }
 
-/// Reads the tokens that are left, and returns the time after them; `from` is the time before them.
-/// In turns: all that can be taken fast (`follow_short`), then one token of any kind
-/// (`take_token`), until no token is left. `is_plain` says that values on the code can be taken
-/// fast: it has 1 to 18 printable bytes. `is_quick` says that whole pulses can: the code has one
-/// such byte, and the unit is a microsecond or less.
+/// As `follow`, with nothing open before: what can be taken fast, then one token of any kind.
 #[inline(always)]
 fn follow_on(
     tokens: &mut Tokens,
@@ -131,12 +105,8 @@ fn follow_on(
     }
 }
 
-/// Takes what belongs to `token`, which is of any kind and was taken just now, and returns the time
-/// after it; `clock` is the time before it. A `#` with digits sets the time (`time_of_digits`). Any
-/// other token leaves it as it is: `take_level` also takes the code of a value, or the rest of a
-/// comment, from `tokens`. If the wire gets a level by that, it goes into the trace at the time
-/// `clock`. An error is one of these two functions, or that memory ran out. Never inlined, for
-/// speed: so the loop of `follow_short` keeps its values in registers.
+/// Takes `token` with what belongs to it, and returns the time after it. Never inlined: so the loop
+/// of `follow_short` keeps its values in registers.
 #[inline(never)]
 fn take_token(
     token: Token<'_>,
@@ -167,15 +137,13 @@ fn take_token(
     Ok(clock)
 }
 
-/// Whether a token of this kind sets a time: whether it begins with `#`.
 fn is_hash(kind: Kind) -> bool
     ensures { result ≡ is_hash (kind_view kind) }
 {
     matches!(kind, Kind::Hash)
 }
 
-/// What is after the first byte of a word: of a time, which begins with `#`, its digits. If the
-/// word is empty, the result is, too.
+/// A word without its first byte, as the digits of `#120`; empty if the word is.
 fn digits_of(word: &[u8]) -> &[u8]
     ensures { result.now ≡ rest_of word.now }
 {

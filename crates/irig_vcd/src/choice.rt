@@ -1,13 +1,4 @@
 //! Which of the declared variables are the wire that is read.
-//!
-//! A variable has a reference, the name that people know, and a code, by which the changes name it.
-//! `wire` is the name that was asked for. It means the variables with this reference; if there are
-//! none, those with this code. Without a name (`None`) it means the variables of one bit.
-//!
-//! The variables come one after another and are not kept. A `Choice` keeps what some of them have
-//! in common: in the end that says whether they are one wire, and which code it has. In contracts,
-//! `Chosen vs` says that a choice keeps this of the variables `vs`, and `KeepsChoices` that both
-//! choices keep it of those variables so far that each of them is about.
 
 ghost use Rattle.std.specs.Prelude.{◌≡◌, ◌++◌, ◌∷◌, [], ℕ, List, Option, if◌then◌else◌};
 ghost use Rattle.irig_vcd.specs.Wire.{chosen, code_of, by_reference, by_code};
@@ -18,9 +9,8 @@ ghost use Rattle.irig_vcd.specs.{Code.Variable.variable_view};
 use crate::fault::VcdFault;
 use crate::variable::Variable;
 
-/// What some variables have in common: the code of the first, or `None` as long as there is none;
-/// whether another one has another code (`many`), so that they are several wires; and whether one
-/// is not of one bit (`wide`).
+/// What some variables have in common: the code of the first, whether another one has another code
+/// (`many`), and whether one is not of one bit (`wide`).
 #[derive(Clone, Copy)]
 pub struct Choice<'a> {
     pub code: Option<&'a [u8]>,
@@ -28,15 +18,13 @@ pub struct Choice<'a> {
     pub wide: bool,
 }
 
-/// The two choices that a wire's name may mean: the variables that have it as their reference, and
-/// those that have it as their code.
+/// The two choices that a wire's name may mean: by reference, and by code.
 #[derive(Clone, Copy)]
 pub struct Choices<'a> {
     pub by_reference: Choice<'a>,
     pub by_code: Choice<'a>,
 }
 
-/// A choice with no variable in it yet.
 pub fn new_choice<'a>() -> Choice<'a>
     ensures { Chosen [] result }
 {
@@ -47,9 +35,7 @@ pub fn new_choice<'a>() -> Choice<'a>
     }
 }
 
-/// Both choices after one more variable. It goes into the choice by reference if it has the wire's
-/// name as its reference, and into the choice by code if it has the name as its code: into both,
-/// one or none.
+/// Both choices after one more variable, which goes into both, one or none of them.
 pub fn with_variable<'a>(
     choices: Choices<'a>,
     variable: Variable<'a>,
@@ -69,8 +55,7 @@ pub fn with_variable<'a>(
     }
 }
 
-/// The choice that the wire's name means: the one by reference, unless no variable is in it; then
-/// the one by code, which may have no variable either.
+/// The choice by reference, unless no variable is in it; then the one by code.
 pub fn choice_of<'a>(choices: Choices<'a>) -> Choice<'a>
     ensures { (wire : Option (List ℕ)) (vs : List Declared)
         → KeepsChoices wire vs choices.entry
@@ -82,9 +67,7 @@ pub fn choice_of<'a>(choices: Choices<'a>) -> Choice<'a>
     }
 }
 
-/// The code that all variables of a choice have. The errors, in this order: `NoSuchWire` if there
-/// is no variable, `ManyWires` if not all have the same code, `NotOneBit` if one of them is not of
-/// one bit.
+/// The code that all have; or, in this order, `NoSuchWire`, `ManyWires` or `NotOneBit`.
 pub fn common_code(choice: Choice<'_>) -> Result<&[u8], VcdFault>
     ensures { (vs : List Declared)
         → Chosen vs choice.entry
@@ -104,8 +87,7 @@ pub fn common_code(choice: Choice<'_>) -> Result<&[u8], VcdFault>
     }
 }
 
-/// Whether a variable has the wire's name as its reference. Without a name (`None`): whether it is
-/// of one bit.
+/// Whether its reference is the wire's name; without a name, whether it is of one bit.
 fn has_reference(variable: Variable<'_>, wire: Option<&[u8]>) -> bool
     ensures { result ≡ by_reference (name_of wire.entry) (variable_view variable.entry) }
 {
@@ -115,7 +97,7 @@ fn has_reference(variable: Variable<'_>, wire: Option<&[u8]>) -> bool
     }
 }
 
-/// Whether a variable has the wire's name as its code. Without a name (`None`) no variable has.
+/// Whether its code is the wire's name; without a name it is not.
 fn has_code(variable: Variable<'_>, wire: Option<&[u8]>) -> bool
     ensures { result ≡ by_code (name_of wire.entry) (variable_view variable.entry) }
 {
@@ -125,7 +107,6 @@ fn has_code(variable: Variable<'_>, wire: Option<&[u8]>) -> bool
     }
 }
 
-/// The choice after one more variable if `is_in` is true; else the choice as it was.
 fn put_if<'a>(is_in: bool, choice: Choice<'a>, variable: Variable<'a>) -> Choice<'a>
     ensures { (vs : List Declared)
         → Chosen vs choice.entry
@@ -134,8 +115,6 @@ fn put_if<'a>(is_in: bool, choice: Choice<'a>, variable: Variable<'a>) -> Choice
     if is_in { put(choice, variable) } else { choice }
 }
 
-/// The choice after one more variable. The first gives the code; a later one with another code sets
-/// `many`. Each that is not of one bit sets `wide`.
 fn put<'a>(choice: Choice<'a>, variable: Variable<'a>) -> Choice<'a>
     ensures { (vs : List Declared)
         → Chosen vs choice.entry

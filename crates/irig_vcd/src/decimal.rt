@@ -3,12 +3,10 @@
 ghost use Rattle.std.specs.Prelude.{◌≡◌};
 ghost use Rattle.irig_vcd.specs.Code.Decimal.{capped_from};
 
-/// A larger number is read as this one, 2^41. It is above each time that a dump may have: those are
-/// at most 2^40 microseconds.
+/// A larger number is read as this one. A time of a dump is at most 2^40 microseconds.
 pub const NUMBER_LIMIT: u64 = 1 << 41;
 
-/// The number that digits spell, or 2^41 if it is above, so that no step overflows. Without any
-/// digits it is 0. `None` if a byte is no digit.
+/// The number that digits spell, or 2^41 if it is above; `None` if a byte is no digit.
 pub fn number(digits: &[u8]) -> Option<u64>
     ensures { result ≡ capped_from 0 digits.now }
 {

@@ -1,12 +1,4 @@
 //! A reader of a dump that comes in parts.
-//!
-//! An extent says how much of the dump is kept: a window, from one microsecond to another, or all;
-//! and how many pulses. A part is held until enough bytes are there, and then read. An error is a
-//! fault of the dump, or `OutOfMemory`. In contracts, `HasRead` says which bytes came so far,
-//! `bytes_read` how many, `IsReader` that clock and counts are within their bounds, and
-//! `extent_parts` is what the dump says: a result, or a fault.
-//!
-//! Where `match` hands an error on, `?` would do the same; the proof of it takes longer.
 
 ghost use Rattle.std.specs.Prelude.{◌≡◌, ◌≤◌, ◌<◌, ◌+◌, ◌++◌, ◌^◌, ◌⊎◌, ◌↔◌, [], ℕ, List, Option};
 ghost use Rattle.std.specs.Prelude.{None, Ok, Err, IfOk, IfErr, IfSome, IsTrue};
@@ -28,8 +20,7 @@ use irig_recording::LongRecording;
 use std::alloc::{AllocError, Global};
 use std::marker::Model;
 
-/// The most bytes of a dump that comes in parts, 2^48: far more than files have, and no place
-/// overflows.
+/// The most bytes of a dump that comes in parts: far more than files have, and no place overflows.
 const LIMIT: usize = 1 << 48;
 
 /// A dump that comes in parts. It keeps the edges and the bytes of the first journal, not the dump.
@@ -49,9 +40,8 @@ impl Model for DumpReader {
 }
 
 impl DumpReader {
-    /// A reader that has read nothing of a dump yet, for the wire with a name, or with `None` for
-    /// the one wire of one bit. It keeps all of the dump, with at most 2^22 pulses. It fails only
-    /// if memory runs out.
+    /// A reader of all of a dump of at most 2^22 pulses; without a name, of the one wire of one
+    /// bit.
     pub fn new(alloc: Global, wire: Option<&[u8]>) -> Result<DumpReader, AllocError>
         ensures read { IfOk result (HasRead (name_of wire.entry) []) }
         ensures whole { IfOk result (λ r. r.reading.trace.extent ≡ short None) }
@@ -60,8 +50,7 @@ impl DumpReader {
         DumpReader::of_extent(alloc, wire, Extent::short(None))
     }
 
-    /// A reader as `new` makes it, which has read nothing yet, but which keeps as much of the dump
-    /// as `extent` says. It fails only if memory runs out.
+    /// A reader that keeps as much of a dump as `extent` says.
     pub fn of_extent(
         alloc: Global,
         wire: Option<&[u8]>,
@@ -86,9 +75,7 @@ impl DumpReader {
         })
     }
 
-    /// Whether `count` bytes more may come: whether the dump has at most 2^48 with them, of which
-    /// `gone` are let go and others are held. Each test subtracts from the limit, so no sum
-    /// overflows.
+    /// Whether `count` bytes more may come: 2^48 in all. It subtracts, so that no sum overflows.
     pub fn has_room(&self, count: usize) -> bool
         ensures { IsTrue result ↔ (bytes_read self.now + count ≤ 2 ^ 48) }
     {
@@ -98,11 +85,8 @@ impl DumpReader {
             && count <= LIMIT - progress.gone - progress.held.len()
     }
 
-    /// The reader after the next part of the dump, which is read, or held until there is enough to
-    /// read (`put_part`). The caller has asked `has_room`. An error is a fault that the dump has,
-    /// whatever comes after the part, or that memory ran out; the reader is gone then. Memory runs
-    /// out only for the bytes that are held, for an edge before the first fault, and, if there is
-    /// no fault so far, for the code of the wire and the first journal.
+    /// Takes the next part. A fault is one that the dump has whatever comes after it. Memory runs
+    /// out only for bytes that are held, an edge, the wire's code, and the first journal.
     pub fn put(self, part: &[u8]) -> Result<DumpReader, VcdFault>
         requires short { bytes_read self + length part.now ≤ 2 ^ 48 }
         ensures read { IfOk result (λ r. (wire : Option (List ℕ)) (bytes : List ℕ)
@@ -126,10 +110,8 @@ impl DumpReader {
         }
     }
 
-    /// What the dump says, if nothing comes after its parts: the recording, and the text of its
-    /// journal, or `None` if it has none. That text goes from the journal's first word up to its
-    /// `$end`. First the bytes that are still held are read (`read_rest`), then all is put together
-    /// (`finish`). An error is the dump's first fault, or `OutOfMemory`.
+    /// What the dump says if nothing comes after its parts: the recording, and the text of its
+    /// journal, from its first word up to its `$end`.
     pub fn end(self) -> Result<(LongRecording, Option<Vec<u8>>), VcdFault>
         ensures read { IfOk result (λ x. (wire : Option (List ℕ)) (bytes : List ℕ)
             → HasRead wire bytes self
@@ -154,7 +136,6 @@ impl DumpReader {
     }
 }
 
-/// A copy of a wire's name; `None` if there is no name. It fails only if memory runs out.
 fn copied(alloc: Global, wire: Option<&[u8]>) -> Result<Option<Vec<u8>>, AllocError>
     ensures { IfOk result (λ name. bytes_of name ≡ name_of wire.entry) }
 {

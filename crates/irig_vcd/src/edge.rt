@@ -1,9 +1,4 @@
-//! An edge as it is written in most dumps: the line of a time, and the line of a level, as `#120`
-//! and `1!`.
-//!
-//! `code` is the byte by which the changes name the wire, here `!`. The level is `1` (high) or `0`.
-//! Places are those of bytes in `source`, from 0. In contracts, `TakesEdge` says that the next two
-//! words are such a time and such a value, and where they end.
+//! An edge as most dumps write it: the line of a time, and the line of a level, as `#120` and `1!`.
 
 ghost use Rattle.std.specs.Prelude.{◌≡◌, ◌≤◌, ◌+◌, ◌∷◌, [], true, length, slice_index, IfSome};
 ghost use Rattle.irig_vcd.specs.Code.Along.{TakesEdge};
@@ -13,15 +8,14 @@ use crate::lanes::lanes_end;
 use crate::time::{Clock, cut};
 use crate::unit::Unit;
 
-/// The time of an edge that was read, and the place after its two lines.
+/// The time of an edge, and the place after its two lines.
 #[derive(Clone, Copy)]
 pub struct Edge {
     pub time: Clock,
     pub end: usize,
 }
 
-/// Whether four bytes are at the place `at`: a newline, which ends the line of the time, this
-/// value, this code, and a newline. They are compared as one number, which is fast.
+/// A newline, this value, this code and a newline, compared as one number, which is fast.
 #[inline(always)]
 fn is_line(source: &[u8], at: usize, value: u8, code: u8) -> bool
     requires { at + 4 ≤ length source.now }
@@ -36,14 +30,8 @@ fn is_line(source: &[u8], at: usize, value: u8, code: u8) -> bool
     stands == line
 }
 
-/// The edge at the place `at`: a time, and the level `high` on this code. `None` if something else
-/// is there. Also `None` if the time has no digits or more than 15: then `lanes_end` gives the
-/// place where it began.
-///
-/// The time is cut in two: the unit says how many of its last digits are below a microsecond. They
-/// are the clock's `rest`, the others its `whole`. `lanes_end` reads up to 16 bytes before the
-/// digits, too (`back`), and 16 from the first digit on. An edge has at most 20 bytes, a `#`, 15
-/// digits and the four of `is_line`: so the 32 from the place on (`room`) are enough for both.
+/// The edge at the place `at`; `None` also if its time has no digits or more than 15. It has at
+/// most 20 bytes, and `lanes_end` reads 16 on each side of the first digit.
 #[inline(always)]
 pub fn edge_at(source: &[u8], at: usize, high: bool, code: u8, unit: Unit) -> Option<Edge>
     requires back { 16 ≤ at }

@@ -10,14 +10,12 @@ use irig_recording::{LONG_PULSES_LIMIT, PULSES_LIMIT};
 #[derive(Clone, Copy)]
 pub struct Extent {
     pub window: Option<Window>,
-    /// If true, at most 2^26 pulses are kept, of a recording that is only read; if false, at most
-    /// 2^22, of one that can be edited.
+    /// At most 2^26 pulses are kept, of a recording that is only read; else 2^22, to be edited.
     pub is_long: bool,
 }
 
 impl Extent {
-    /// A window of a dump, or all of it (`None`), with at most 2^22 pulses, as a track has that is
-    /// edited.
+    /// At most 2^22 pulses, as a track has that is edited.
     pub fn short(window: Option<Window>) -> Extent
         ensures { result ≡ short window }
     {
@@ -27,7 +25,7 @@ impl Extent {
         }
     }
 
-    /// A window of a dump, or all of it (`None`), with at most 2^26 pulses.
+    /// At most 2^26 pulses.
     pub fn long(window: Option<Window>) -> Extent
         ensures { result ≡ long window }
     {
@@ -37,7 +35,6 @@ impl Extent {
         }
     }
 
-    /// The most pulses that are kept: 2^26 if it is long, else 2^22.
     #[inline(always)]
     pub fn most_pulses(self) -> usize
         ensures value { result ≡ most_pulses self }

@@ -1,15 +1,4 @@
 //! The journals of a dump, by their places.
-//!
-//! A comment is the word `$comment`, other words, and `$end`. It is a journal if its first word
-//! after `$comment` is `irig-journal-1`; the text of a journal goes from that word up to its
-//! `$end`. A dump may have one. `Pending` says what is open after the last token that was read:
-//! `Comment` is a comment without its first word, `Rest(journal)` one with it; `journal` is where
-//! that word begins, or `None` if the comment is no journal. Places are in bytes of the dump, from
-//! 0.
-//!
-//! In contracts, `Holds all` says that the places are those of the journals in the list `all`. A
-//! scan `s` is what the words so far say; journals and pending are those of a scan before a call
-//! (`Keeps`) and after it (`Reaches`).
 
 ghost use Rattle.std.specs.Prelude.{◌≡◌, ◌≤◌, ◌++◌, ◌∷◌, [], ℕ, List, None, Some, IfErr, IfOk};
 ghost use Rattle.std.specs.Prelude.{IfSome, codes, length, map, vec_len};
@@ -27,7 +16,7 @@ use crate::pending::Pending;
 use crate::section::{end_at, is_end};
 use crate::token::{Token, Tokens};
 
-/// Where a text begins and where it ends: bytes from `start` up to and without `end`.
+/// Bytes of the dump, from 0: from `start` up to and without `end`.
 #[derive(Clone, Copy)]
 pub struct Place {
     pub start: usize,
@@ -35,9 +24,7 @@ pub struct Place {
 }
 
 impl Place {
-    /// The bytes of this place that are in `part`, which comes after the first `gone` bytes of the
-    /// dump. The place may begin before the part or end after it. The result is empty if none of it
-    /// is in the part.
+    /// The bytes of this place that are in `part`, which comes after `gone` bytes; it may be none.
     pub fn within<'a>(self, part: &'a [u8], gone: usize) -> &'a [u8]
         ensures bytes { result.now ≡ part_at (Some (self.start, self.end)) gone part.now }
         ensures short { length result.now ≤ length part.now }
@@ -48,8 +35,7 @@ impl Place {
     }
 }
 
-/// The journals that have ended so far: the place of the first, and whether there are more
-/// (`many`).
+/// The place of the first journal that has ended, and whether there are more (`many`).
 #[derive(Clone, Copy)]
 pub struct Journals {
     first: Option<Place>,
@@ -57,7 +43,6 @@ pub struct Journals {
 }
 
 impl Journals {
-    /// No journal yet.
     pub fn new() -> Journals
         ensures { Holds [] result }
     {
@@ -67,8 +52,7 @@ impl Journals {
         }
     }
 
-    /// Notes one more journal, which comes after the others in the dump. Of the first its place is
-    /// kept, of any other only that there is one (`many`).
+    /// Notes one more journal, which comes after the others in the dump.
     fn put(&mut self, place: Place)
         ensures { (all : List Comment) (c : Comment)
             → place.start ≡ c.first.offset → place.end ≡ c.end
@@ -80,10 +64,8 @@ impl Journals {
         }
     }
 
-    /// Takes the rest of a comment whose first word was read, up to its `$end`, and notes the
-    /// comment if it is a journal (`put`). `journal` is where its first word begins, or `None` if
-    /// it is no journal. Returns what is open then: `Nothing`; or, if the `$end` is not among the
-    /// tokens, all are taken and the comment stays open, with the same `journal`.
+    /// Takes a comment from its second word up to its `$end`, or all tokens: then it stays open.
+    /// `journal` is where its first word begins, if it is a journal.
     pub fn take_rest(&mut self, journal: Option<usize>, tokens: &mut Tokens) -> Pending
         ensures read { (code : List ℕ) (unit : ℕ) (s : Scan)
             → Keeps s self.old (pending.Rest journal)
@@ -100,10 +82,7 @@ impl Journals {
         Pending::Nothing
     }
 
-    /// Takes a comment whose `$comment` was read, up to its `$end`, and notes it if it is a
-    /// journal. It may have no word before its `$end`: then it is no journal. Returns what is open
-    /// then: `Nothing`; or, if the tokens end before, the comment, without its first word or with
-    /// it.
+    /// Takes a comment whose `$comment` was read. It may have no word.
     pub fn take_comment(&mut self, tokens: &mut Tokens) -> Pending
         ensures read { (code : List ℕ) (unit : ℕ) (s : Scan) → Keeps s self.old pending.Comment
             → Reaches code unit s tokens.old None tokens.new self.new result }
@@ -118,9 +97,7 @@ impl Journals {
         self.take_rest(journal_at(first), tokens)
     }
 
-    /// The place of the first journal in what was read so far, the first `top` bytes of the dump.
-    /// If no journal has ended but one is open, as `pending` says, its place goes up to `top`.
-    /// `None` if there is neither.
+    /// The first journal in the first `top` bytes of the dump; one that is open goes up to `top`.
     pub fn so_far(self, pending: Pending, top: usize) -> Option<Place>
         ensures { place_view result ≡ so_far (place_view self.first) pending top }
     {
@@ -133,10 +110,8 @@ impl Journals {
         }
     }
 
-    /// The text of the one journal of a dump that came in parts: `bytes`, which the caller gathered
-    /// of the first journal part by part; or `None` if there is no journal. `BadJournal(1)` if
-    /// there is a second one: the number is that of a line of the journal, here the first. `text`
-    /// does the same for a dump that is in memory.
+    /// The one journal, whose text the caller gathered as `bytes`; `BadJournal(1)` if there are
+    /// more.
     pub fn gathered_text(self, bytes: Vec<u8>) -> Result<Option<Vec<u8>>, VcdFault>
         ensures one { (all : List Comment) (dump : List ℕ) → Holds all self
             → IfSome self.first (λ p. text_at dump (Some p) ≡ Some bytes.items)
@@ -154,10 +129,7 @@ impl Journals {
         }
     }
 
-    /// The text of the one journal of a dump that is in memory, `source`; or `None` if there is no
-    /// journal. `BadJournal(1)` if there is a second one: the number is that of a line of the
-    /// journal, here the first. The places were noted in this dump, so they are within it
-    /// (`LiesIn`).
+    /// The same of a dump in memory, `source`, in which the places were noted.
     pub fn text<'a>(self, source: &'a [u8]) -> Result<Option<&'a [u8]>, VcdFault>
         requires within { LiesIn source.now self }
         ensures one { (all : List Comment) → Holds all self
@@ -176,8 +148,7 @@ impl Journals {
     }
 }
 
-/// Where a comment with this first word begins as a journal: the place of the word. `None` if the
-/// comment is no journal.
+/// Where this first word of a comment begins, if the comment is a journal.
 fn journal_at(first: Token<'_>) -> Option<usize>
     ensures { Begins result (word_of first.entry) }
 {
@@ -188,7 +159,6 @@ fn journal_at(first: Token<'_>) -> Option<usize>
     }
 }
 
-/// Whether a comment with this first word is a journal: the word is `irig-journal-1`.
 fn is_journal(word: &[u8]) -> bool
     ensures { result ≡ bytes_eq word.now (codes "irig-journal-1") }
 {

@@ -1,15 +1,4 @@
 //! The end of a dump that comes in parts: the last bytes are read, and the whole is put together.
-//!
-//! `progress` is what was read so far, and the bytes that are held. `reading` is what was read
-//! after the declarations. `unit` is that of the dump's times, which the declarations give. The
-//! journal is the comment that begins with `irig-journal-1`; a dump may have one.
-//!
-//! In contracts, `HasRead` says which bytes of the dump came so far, `HasReadWords` that all of
-//! them are read, `IsReader` and `IsOn` that clock and counts are within their bounds, `gathered`
-//! are the bytes of the first journal, and `extent_parts` is what the dump says: a result, or a
-//! fault.
-//!
-//! Where `match` hands an error on, `?` would do the same; the proof of it takes longer.
 
 ghost use Rattle.std.specs.Prelude.{◌≡◌, ◌≤◌, ℕ, List, Option, None, Ok, Err, IfOk, IfErr, IfSome};
 ghost use Rattle.std.specs.Prelude.{OnOk, vec_len};
@@ -28,9 +17,7 @@ use crate::reading::{Body, Reading};
 use crate::unit::Unit;
 use irig_recording::LongRecording;
 
-/// Reads all bytes that are held: nothing comes after them. Keeps what of them is of the first
-/// journal, and returns the unit. A fault of the declarations, `Ok(Err(fault))` of `read_to`, was
-/// not final while more bytes could come; now it is, and is an error as any other fault.
+/// Reads all bytes that are held. A fault of the declarations is final now, and so an error.
 pub fn read_rest(progress: &mut Progress) -> Result<Unit, VcdFault>
     requires reader { IsReader progress.old }
     ensures extent { progress.new.reading.trace.extent ≡ progress.old.reading.trace.extent }
@@ -62,10 +49,8 @@ pub fn read_rest(progress: &mut Progress) -> Result<Unit, VcdFault>
     }
 }
 
-/// What a dump says of which all was read: the recording, and the text of its journal, which is
-/// `journal`; or `None` if it has none. The faults, in this order: something is open at the end
-/// (`Reading::finish`), there are too many edges (`recording_of`), or there is a second journal
-/// (`gathered_text`).
+/// What a dump says of which all was read. The faults, in this order: something is open, there are
+/// too many edges, there is a second journal.
 pub fn finish(
     reading: Reading,
     journal: Vec<u8>,

@@ -1,13 +1,4 @@
 //! The next part of a dump that comes in parts: it is held, and read when enough bytes are held.
-//!
-//! `progress` is what was read so far, and the bytes that are held. Its `wanted` says how many have
-//! to be held before they are read: so the same bytes are not read again for each small part. The
-//! declarations come first in a dump, and are read as a whole.
-//!
-//! In contracts, `HasRead` says which bytes of the dump came so far, `IsReader` that clock and
-//! counts are within their bounds, and `extent_parts` is what the dump says: a result, or a fault.
-//!
-//! Where `match` hands an error on, `?` would do the same; the proof of it takes longer.
 
 ghost use Rattle.std.specs.Prelude.{◌≡◌, ◌≤◌, ◌<◌, ◌+◌, ◌*◌, ◌++◌, ◌^◌, ◌⊎◌, ℕ, List, Option, Err};
 ghost use Rattle.std.specs.Prelude.{IfErr, OnOk, length, vec_capacity, vec_len};
@@ -21,9 +12,7 @@ use crate::fault::VcdFault;
 use crate::part::whole_len;
 use crate::progress::Progress;
 
-/// Holds the next part of the dump. If `wanted` bytes or more are held then, they are read
-/// (`read_held`); else it fails only if memory runs out. `short`: with this part the dump has at
-/// most 2^48 bytes so far, which `has_room` of the reader tests.
+/// `wanted` says how many are enough, so the same bytes are not read again for each small part.
 pub fn put_part(progress: &mut Progress, part: &[u8]) -> Result<(), VcdFault>
     requires reader { IsReader progress.old }
     requires short { bytes_read progress.old + length part.now ≤ 2 ^ 48 }
@@ -51,11 +40,8 @@ pub fn put_part(progress: &mut Progress, part: &[u8]) -> Result<(), VcdFault>
     read_held(progress)
 }
 
-/// Reads the bytes that are held, but for a last word that may go on in the next part
-/// (`whole_len`). `Ok(Ok(_))` of `read_to`: they are read. What of them is of the first journal is
-/// kept (`gather`), and they are let go. `Ok(Err(_))`: nothing is read, as the declarations have a
-/// fault, which may be there only because they are cut. All bytes stay held, and `let_go(0)` sets
-/// `wanted` to twice as many. `Err`: a fault of the changes, or memory ran out.
+/// Reads the bytes that are held, but for a last word that may go on in the next part. With a fault
+/// of the declarations, which may only be cut, all stay held, and twice as many are wanted.
 fn read_held(progress: &mut Progress) -> Result<(), VcdFault>
     requires reader { IsReader progress.old }
     ensures reader { OnOk result (IsReader progress.new) }

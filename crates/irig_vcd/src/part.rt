@@ -1,5 +1,4 @@
-//! Where a part of a dump may end. A word is a run of bytes without white space. In contracts,
-//! `ends_inside false` says whether the last of these bytes is of a word.
+//! Where a part of a dump may end.
 
 ghost use Rattle.std.specs.Prelude.{◌≡◌, ◌≤◌, true, false, not, length, drop, take};
 ghost use Rattle.std.specs.List.{list_all};
@@ -7,9 +6,7 @@ ghost use Rattle.irig_vcd.specs.{Code.Joins.ends_inside, Words.is_space};
 
 use crate::token::is_space;
 
-/// How many bytes there are up to and with the last white space; 0 if there is none. What is after
-/// them may be the front of a word that goes on in the next part. No word is cut between, so these
-/// bytes can be read before that part has come.
+/// How many bytes there are up to and with the last white space, so that no word is cut.
 pub fn whole_len(bytes: &[u8]) -> usize
     ensures within { result ≤ length bytes.now }
     ensures outside { ends_inside false (take result bytes.now) ≡ false }

@@ -4,18 +4,15 @@ ghost use Rattle.irig_vcd.specs.{Code.Pending.Means, Scan.IsClosed, Scan.Open, S
 
 use crate::fault::VcdFault;
 
-/// A value without its code: its place in the dump, in bytes from 0, and the level that it gives
-/// the wire of its code. `Ok(None)` is no level, as of a real or a text; an error is that of a
-/// vector that has no bit at its end.
+/// A value without its code: its place, in bytes from 0, and the level that it gives the wire.
+/// `Ok(None)` is no level, as of a real; the error is that of a vector without a bit at its end.
 #[derive(Clone, Copy)]
 pub struct Value {
     pub offset: usize,
     pub level: Result<Option<bool>, VcdFault>,
 }
 
-/// What is open after a word: nothing, a value without its code, a comment whose first word is
-/// still to come, or a comment with its first word. `Rest` has the place of that word, in bytes of
-/// the dump from 0, if it begins a journal.
+/// `Rest` has the place of a comment's first word, if it begins a journal.
 #[derive(Clone, Copy)]
 pub enum Pending {
     Nothing,
@@ -24,8 +21,7 @@ pub enum Pending {
     Rest(Option<usize>),
 }
 
-/// An error unless the dump may end here, with nothing open: `BadToken` at the place of an open
-/// value, `Unclosed` for an open comment.
+/// `BadToken` at the place of an open value, `Unclosed` for an open comment.
 pub fn closed(pending: Pending) -> Result<(), VcdFault>
     ensures { (now : Open) → Means pending now → IsClosed result (left_open now) }
 {

@@ -1,17 +1,4 @@
 //! How far a dump that comes in parts is read.
-//!
-//! Bytes of the dump are held until enough of them are there, then read, and let go. The
-//! declarations come first; what is after them are the changes. The declarations are read as a
-//! whole: as long as the end of them is not there, all bytes stay held, and there is no unit yet.
-//! Then each reading goes on where the last one ended.
-//!
-//! In contracts, `HasReadWords` says that the declarations and the words after them are read, and
-//! `Stage` the same, or that nothing is read as there is no unit yet. `StopsAt` says that an error
-//! is the first fault after the declarations, or that memory ran out. `IsReady` and `IsOn` say that
-//! the clock fits the unit, or any unit as long as there is none. `short`: a dump in parts has at
-//! most 2^48 bytes, so no place overflows.
-//!
-//! Where `match` hands an error on, `?` would do the same; the proof of it takes longer.
 
 ghost use Rattle.std.specs.Prelude.{◌≡◌, ◌≤◌, ◌<◌, ◌+◌, ◌*◌, ◌++◌, ◌^◌, List, Some, None, Ok, Err};
 ghost use Rattle.std.specs.Prelude.{IfOk, IfErr, OnErr, OnOk, false, length, take};
@@ -28,13 +15,9 @@ use crate::stages::{begin, go_on};
 use crate::unit::Unit;
 use std::alloc::AllocError;
 
-/// What was read of a dump, and the bytes that are held.
-///
-/// `wire` is the name of the wire that was asked for. `unit` and `code` are what the declarations
-/// say; there is no unit until they are read. `reading` is what was read after them. `gone` counts
-/// the bytes that were read and are no longer held. `held` are the bytes after those. `wanted` is
-/// how many have to be held before they are read. `journal` are the bytes of the first journal, the
-/// comment that begins with `irig-journal-1`, among those that are gone.
+/// What was read of a dump; there is no `unit` until the declarations are read as a whole. `gone`
+/// counts the bytes that were read and let go, `held` are those after them, `wanted` is how many
+/// are enough to be read, and `journal` are the bytes of the first journal that are gone.
 #[derive(Drop)]
 pub struct Progress {
     pub wire: Option<Vec<u8>>,
@@ -48,15 +31,9 @@ pub struct Progress {
 }
 
 impl Progress {
-    /// Reads the first `whole` of the bytes that are held, which stay held. If there is no unit
-    /// yet, they begin with the declarations (`begin`); else they are changes (`go_on`). One of
-    /// three answers:
-    ///
-    /// - `Ok(Ok(unit))`: they are read, and this is the unit of the dump's times;
-    /// - `Ok(Err(fault))`: there is no unit yet, the declarations have this fault, and nothing is
-    ///   read. With more bytes of the dump there may be another fault, or none;
-    /// - `Err(fault)`: a fault of the changes, which stays whatever comes, or memory ran out. The
-    ///   caller gives up.
+    /// Reads the first `whole` of the bytes that are held. `Ok(Err(fault))`: nothing is read, as
+    /// the declarations have a fault, which more bytes may change. `Err`: a fault that stays, or
+    /// memory ran out.
     pub fn read_to(&mut self, whole: usize) -> Result<Result<Unit, VcdFault>, VcdFault>
         requires within { whole ≤ vec_len self.old.held }
         requires ready { IsReady self.old.unit self.old.reading }
@@ -112,10 +89,7 @@ impl Progress {
         }
     }
 
-    /// Adds to `journal` the bytes of the first journal that are among the first `whole` bytes that
-    /// are held. Those were read just now (`read_to`), and are not let go yet. `so_far` gives the
-    /// place of the first journal in the dump, and `within` cuts it to these bytes. If there is no
-    /// journal, nothing changes. It fails only if memory runs out.
+    /// Adds to `journal` what the first `whole` held bytes, which were read just now, have of it.
     pub fn gather(&mut self, whole: usize) -> Result<(), AllocError>
         requires within { whole ≤ vec_len self.old.held }
         requires short { self.old.gone + vec_len self.old.held ≤ 2 ^ 48 }
@@ -147,9 +121,7 @@ impl Progress {
         }
     }
 
-    /// Lets the first `count` of the held bytes go: they were read. Sets `wanted` to twice as many
-    /// bytes as stay held. What stays is read again with the next bytes: so it is read only when
-    /// there are twice as many, however small the parts are.
+    /// Lets `count` bytes go. What stays is read again: so only when there are twice as many bytes.
     pub fn let_go(&mut self, count: usize)
         requires within { count ≤ vec_len self.old.held }
         requires short { self.old.gone + vec_len self.old.held ≤ 2 ^ 48 }
@@ -168,8 +140,6 @@ impl Progress {
     }
 }
 
-/// The name of the wire that was asked for, as a slice of the `Vec` that keeps it. `None` if none
-/// was asked for.
 fn name_slice(wire: &Option<Vec<u8>>) -> Option<&[u8]>
     ensures { name_of result ≡ bytes_of wire.now }
 {
@@ -179,8 +149,6 @@ fn name_slice(wire: &Option<Vec<u8>>) -> Option<&[u8]>
     }
 }
 
-/// Removes the first `count` bytes, of which there are at least that many. The others move to the
-/// front.
 fn drop_front(bytes: &mut Vec<u8>, count: usize)
     requires { count ≤ vec_len bytes.old }
     ensures { bytes.new.items ≡ drop count bytes.old.items }

@@ -1,21 +1,4 @@
-//! Pulses that are read in one step: a rise and a fall, each the line of a time and the line of a
-//! level, as `#120` and `1!`.
-//!
-//! `code` is the byte by which the changes name the wire, here `!`. `unit` is that of the dump's
-//! times: a microsecond or less. A clock is a time of the dump, cut in two: `whole` is in
-//! microseconds, and `rest` is what is left, in units. `tokens.at` is the place of the next byte in
-//! the text `source`; places count from 0.
-//!
-//! The trace follows the level of the wire and keeps its edges. It gave the stretch, which goes up
-//! to its `limit`, a microsecond of the dump: on it the trace takes whole pulses. If `is_kept` is
-//! true, their edges are in the window that is read and are kept; if not, none of them is.
-//!
-//! In contracts, a scan `s` is what the words so far say. `IsTraced` says that clock and trace have
-//! its time and its changes, `Passes` that the tokens that are left lead on from there to the same
-//! end as all did before, and `LiesOn` that the level is low and the stretch fits the trace.
-//! `late`: the trace is not ahead of the time `from`.
-//!
-//! Where `let .. else` hands `None` on, `?` would do the same; the proof of it takes longer.
+//! Pulses that are read in one step: a rise and a fall, each as `#120` and `1!` on two lines.
 
 ghost use Rattle.std.specs.Prelude.{◌≡◌, ◌≤◌, ◌<◌, ◌+◌, ◌∷◌, [], true, false, length};
 ghost use Rattle.std.specs.Prelude.{IfSome, IfOk, OnErr};
@@ -31,16 +14,10 @@ use crate::trace::Trace;
 use crate::unit::Unit;
 use std::alloc::AllocError;
 
-/// If fewer bytes than these are left in the text, the slower way reads them. The two edges of a
-/// pulse have at most 40, each a `#`, 15 digits, a newline, a value, a code and a newline; the rest
-/// is room, since `edge_at` reads up to 32 bytes from an edge on.
+/// Two edges have at most 40 bytes, and `edge_at` reads up to 32 from an edge on.
 const LONGEST_PULSE: usize = 64;
 
-/// The pulse at the place `at`: its rise and its fall. `None` if these two edges are not there
-/// (`edge_at`), if the rise is not in a later microsecond than `after`, if the fall is not in a
-/// later one than the rise, or if the fall is after `limit`; at `limit` it may be. `after` and
-/// `limit` are microseconds of the dump. `edge_at` needs 16 bytes before each edge (`back`), and 32
-/// from it on: the 64 from `at` on suffice for both (`room`).
+/// The rise and the fall at the place `at`, in microseconds later than `after` and up to `limit`.
 #[inline(always)]
 fn pulse_at(
     source: &[u8],
@@ -71,11 +48,9 @@ fn pulse_at(
     Some((rise, fall))
 }
 
-/// Takes the pulses that come next into the trace, and returns the time of the last fall, or `from`
-/// if none is taken. `from` is the time before them; `take_in_unit` says where it stops. A unit of
-/// a microsecond (9) or a nanosecond (6) is passed on as a constant: then the compiler knows by
-/// which number the times are cut, which is faster. It fails only if memory runs out. Never
-/// inlined, for speed: so its state stays in registers of the machine.
+/// Takes the pulses that come next, and returns the time of the last fall, or `from` without any. A
+/// unit of 9 or 6 is passed on as a constant: so times are cut faster. Never inlined, for speed: so
+/// its state stays in registers.
 #[inline(never)]
 pub fn take_pulses(
     tokens: &mut Tokens,
@@ -107,8 +82,7 @@ pub fn take_pulses(
     take_in_unit(tokens, code, unit, from, trace, stretch)
 }
 
-/// What `take_pulses` does if the unit is the microsecond: `from` and the result are whole
-/// microseconds, since such a time has no rest. Never inlined, as `take_pulses`.
+/// What `take_pulses` does if the unit is the microsecond: then a time has no rest.
 #[inline(never)]
 fn take_in_micros(
     tokens: &mut Tokens,
@@ -135,16 +109,8 @@ fn take_in_micros(
     Ok(clock.whole)
 }
 
-/// What `take_pulses` does, with any unit of at most a microsecond: the loop over the pulses. It
-/// stops at the first place where
-///
-/// - no pulse is (`pulse_at`), or an edge is in no later microsecond than the one before it;
-/// - the fall is after the limit of the stretch;
-/// - fewer than 64 bytes are left (`LONGEST_PULSE`);
-/// - edges are kept, and the trace has no room for two more.
-///
-/// `pulse_at` also reads the 16 bytes before a place, so in the first 16 nothing is taken. What is
-/// not taken here is read in the slower way.
+/// The loop over the pulses. It stops at the first place that has no pulse, not 16 bytes before it
+/// or 64 after it, or for which the trace has no room.
 #[inline(always)]
 fn take_in_unit(
     tokens: &mut Tokens,

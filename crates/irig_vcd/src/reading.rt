@@ -1,15 +1,4 @@
 //! What was read after the declarations: the changes of the wire.
-//!
-//! `code` is that of the wire that is read, and `unit` that of the dump's times. A clock is a time
-//! in that unit. The trace follows the level of the wire and keeps its edges. An extent says how
-//! much of the dump is kept: a window, from one microsecond to another, or all; and how many
-//! pulses. `moved` gives the microsecond of the window that a microsecond of the dump falls on.
-//!
-//! In contracts, a scan `s` is what the words so far say; `StandsAt` says that a reading holds
-//! that, and `IsOn` that a trace has followed some changes, none of them after the clock. `IsKept`
-//! and `KeepsEdges` say that all edges are kept, or one more than the most pulses have.
-//!
-//! Where `match` hands an error on, `?` would do the same; the proof of it takes longer.
 
 ghost use Rattle.std.specs.Prelude.{◌≡◌, ◌≤◌, ◌^◌, ℕ, List, None, Err, IfOk, OnOk};
 ghost use Rattle.irig_vcd.specs.{Code.Journals.Holds, Code.Reached.IsOn, Code.Scanned.HasScanned};
@@ -31,9 +20,7 @@ use crate::window::moved;
 use irig_recording::Edges;
 use std::alloc::Global;
 
-/// What was read so far: the last time (`clock`), the edges and the level of the wire (`trace`),
-/// the places of the journals, and what is open after the last token (`pending`): a value without
-/// its code, a comment without its end, or nothing.
+/// What was read so far: the last time, the edges and the level, the journals, and what is open.
 #[derive(Drop)]
 pub struct Reading {
     pub clock: Clock,
@@ -42,8 +29,7 @@ pub struct Reading {
     pub pending: Pending,
 }
 
-/// What a whole dump says after its declarations: the length that is kept of it (`end`), in
-/// microseconds, the edges, and the places of the journals.
+/// What a dump says after its declarations. `end` is the length that is kept, in microseconds.
 #[derive(Drop)]
 pub struct Body {
     pub end: u64,
@@ -52,8 +38,6 @@ pub struct Body {
 }
 
 impl Reading {
-    /// A reading that has read nothing yet: the time is 0. `extent` says which edges will be kept:
-    /// those in its window, or all without one.
     pub fn new(alloc: Global, extent: Extent) -> Reading
         ensures start { (unit : ℕ) → StandsAt unit start result }
         ensures time { (unit : ℕ) → IsOn unit result.trace result.clock }
@@ -67,9 +51,7 @@ impl Reading {
         }
     }
 
-    /// Reads all of these tokens, which come after those that were read before. More may come later
-    /// in another call: what is open after the last is kept in `pending`. An error is a fault of
-    /// the dump whatever comes after them, or that memory ran out; this reading is then given up.
+    /// Reads tokens that come after the others. A fault is one of the dump whatever comes later.
     pub fn read(&mut self, tokens: &mut Tokens, unit: Unit, code: &[u8]) -> Result<(), VcdFault>
         requires time { IsOn unit self.old.trace self.old.clock }
         ensures time { OnOk result (IsOn unit self.new.trace self.new.clock) }
@@ -89,11 +71,8 @@ impl Reading {
         Ok(())
     }
 
-    /// What was read, if nothing comes after it. The length (`end`) is the last time of the dump.
-    /// With a window it is the length of the window, or less if the dump ends before the window
-    /// does. There can be one edge more than may be kept, for which the caller tests
-    /// (`recording_of`). `BadToken` if a value without its code is open, `Unclosed` if a comment is
-    /// (`closed`); else only memory can run out.
+    /// What was read, if nothing comes after it. `BadToken` if a value without its code is open,
+    /// `Unclosed` if a comment is; an edge too many is no error here.
     pub fn finish(self, unit: Unit) -> Result<Body, VcdFault>
         requires time { IsOn unit self.trace self.clock }
         ensures exact { (s : Scan) → StandsAt unit s self
@@ -123,10 +102,7 @@ impl Reading {
     }
 }
 
-/// Reads all that is after the declarations of a dump that is in memory as a whole. There is no
-/// window (`None`), so all edges are kept, but of those beyond 2^22 pulses only one, which shows
-/// that there are too many. An error is the first fault, also of something that is open at the end
-/// (`Reading::finish`), or that memory ran out.
+/// Reads all that is after the declarations of a dump in memory, of at most 2^22 pulses.
 pub fn read_body(
     alloc: Global,
     tokens: &mut Tokens,

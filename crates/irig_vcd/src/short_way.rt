@@ -1,19 +1,4 @@
 //! The short way: tokens of a wire's changes that are read in one step, which is fast.
-//!
-//! A token is a word of the dump, a run of bytes without white space. The short way takes a time, a
-//! value of one bit and a whole pulse, as most dumps write them. All else is left to the way for
-//! any token, which is slower (`take_token` of `changes`). `tokens` holds the tokens that are left:
-//! what is taken is removed from it.
-//!
-//! `code` is that of the wire that is read; it is plain if it has 1 to 18 printable bytes. A clock
-//! is a time of the dump, in its unit. The trace follows the level of the wire and keeps its edges;
-//! a stretch of it says how far whole pulses may be taken, and whether their edges are kept.
-//!
-//! In contracts, `end` is where all words of the changes lead: what they say, and their first fault
-//! or none. `Leads` says that the tokens that are left lead there; `Scans` and `Puts` that they
-//! still do after the function, or that its error is that fault, or memory ran out.
-//!
-//! Where `match` hands an error on, `?` would do the same; the proof of it takes longer.
 
 ghost use Rattle.std.specs.Prelude.{◌≡◌, ◌↔◌, ◌≤◌, ◌<◌, List, Option, true, length, slice_index};
 ghost use Rattle.std.specs.Prelude.{IfOk, OnErr};
@@ -35,8 +20,7 @@ use crate::unit::Unit;
 use crate::variable::is_code;
 use std::alloc::AllocError;
 
-/// Whether a code is plain: it has 1 to 18 printable bytes, from `!` to `~`. Then the short way
-/// takes values on it.
+/// Whether a code is plain: it has 1 to 18 printable bytes, from `!` to `~`.
 pub fn is_plain(code: &[u8]) -> bool
     ensures some { result ≡ true → 0 < length code.now }
     ensures few { result ≡ true → length code.now ≤ 18 }
@@ -45,8 +29,7 @@ pub fn is_plain(code: &[u8]) -> bool
     !code.is_empty() && code.len() <= LONGEST_CODE && is_code(code)
 }
 
-/// Whether the short way takes whole pulses: the unit is a microsecond or less, and the code is
-/// plain and of one byte. `is_plain` is what the function of this name says of the code.
+/// Whether whole pulses are taken: the unit is a microsecond or less, the code one plain byte.
 pub fn is_quick(is_plain: bool, unit: Unit, code: &[u8]) -> bool
     ensures plain { result ≡ true → is_plain ≡ true }
     ensures unit { result ≡ true → unit ≤ 9 }
@@ -55,12 +38,8 @@ pub fn is_quick(is_plain: bool, unit: Unit, code: &[u8]) -> bool
     is_plain && unit.divides_microsecond() && code.len() == 1
 }
 
-/// Takes the tokens that come next, as long as the short way takes them, and returns the time after
-/// them; `from` is the time before them. A time sets the clock; a value on the code goes into the
-/// trace, with the pulses after it (`take_bit`); a value on another code (`Apart`) is passed over.
-/// At any other token (`Other`) it stops. An error is `Backward` for a time before the last one,
-/// `TimeTooLarge` for one above 2^40 microseconds, or `OutOfMemory`. `is_plain` and `is_quick` are
-/// what the functions of these names say: the caller asks them once.
+/// Takes tokens as long as they are short, and returns the time after them. The caller asks
+/// `is_plain` and `is_quick` once.
 #[inline(always)]
 pub fn follow_short(
     is_plain: bool,
@@ -103,8 +82,6 @@ pub fn follow_short(
     }
 }
 
-/// Whether a number sign (`#`), with which a time begins, is at a place, from 0; false at the end
-/// of the text.
 #[inline(always)]
 fn has_sign(source: &[u8], at: usize) -> bool
     ensures { result ≡ true ↔ (at < length source.now) × (slice_index source.now at ≡ 35) }
@@ -112,10 +89,8 @@ fn has_sign(source: &[u8], at: usize) -> bool
     at < source.len() && source[at] == b'#'
 }
 
-/// Takes the whole pulses that come next (`take_pulses`), and returns the time of the last fall, or
-/// `clock` if it takes none. It takes none if `is_quick` is false; if the level is high; if no
-/// number sign is next, with which the time of a pulse begins; or if the trace has no stretch. It
-/// fails only if memory runs out.
+/// Takes the whole pulses that come next, and returns the time of the last fall, or `clock`. It
+/// takes none if the level is high, or if the trace has no stretch.
 #[inline(always)]
 fn take_ahead(
     is_quick: bool,
@@ -148,9 +123,7 @@ fn take_ahead(
     Ok(clock)
 }
 
-/// Takes a value on the code, which was read just now: the trace gets its level (`high`) at the
-/// time `clock`. Then takes the pulses after it (`take_ahead`), and returns the time of the last
-/// fall, or `clock` if none is taken. It fails only if memory runs out.
+/// Takes a value on the code, with the pulses after it, and returns the time after them.
 #[inline(always)]
 fn take_bit(
     high: bool,

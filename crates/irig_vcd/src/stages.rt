@@ -1,14 +1,4 @@
-//! The two stages of reading a dump that comes in parts: its front, with the declarations, and the
-//! parts after it, which have changes alone.
-//!
-//! The declarations give the unit of the dump's times and the code of the wire. They are whole if
-//! the section that ends them is there. `reading` is what was read after them. A part here is bytes
-//! that end where a word ends.
-//!
-//! In contracts, `HasReadWords` says that the declarations and the words after them are read, and
-//! `IsNew` that none of these is. `StopsAt` and `StopsIn` say that an error is the first fault
-//! after the declarations, or that memory ran out. `IsOn` says that the clock fits the unit.
-//! `short`: a dump in parts has at most 2^48 bytes, so no place overflows.
+//! The two stages of reading a dump that comes in parts: its front, and the changes after it.
 
 ghost use Rattle.std.specs.Prelude.{◌≡◌, ◌≤◌, ◌+◌, ◌++◌, ◌^◌, [], ℕ, List, Option, None, Ok, Err};
 ghost use Rattle.std.specs.Prelude.{IfOk, IfErr, OnOk, false, length};
@@ -23,14 +13,9 @@ use crate::reading::Reading;
 use crate::token::Tokens;
 use crate::unit::Unit;
 
-/// Reads the front of a dump, of which nothing was read before (`new`): the declarations, and the
-/// changes that come after them in `part`. The code of the wire goes into `code`, which is empty.
-/// One of three answers:
-///
-/// - `Ok(Ok(unit))`: the declarations are whole and without a fault, and all of the part is read;
-/// - `Ok(Err(fault))`: the declarations have this fault. Nothing is read, since the cause may be
-///   that the dump is cut here: with more bytes there may be another fault, or none;
-/// - `Err(fault)`: a fault of the changes, which stays whatever comes, or memory ran out.
+/// Reads the front of a dump: the declarations, and the changes after them in `part`.
+/// `Ok(Err(fault))`: nothing is read, as the declarations have a fault, maybe since the dump is cut
+/// here. `Err`: a fault that stays whatever comes, or memory ran out.
 pub fn begin(
     wire: Option<&[u8]>,
     code: &mut Vec<u8>,
@@ -64,9 +49,7 @@ pub fn begin(
     }
 }
 
-/// Reads a part that is after the declarations: its changes go into `reading`. `gone` bytes of the
-/// dump are before it. An error is a fault of the changes, which stays whatever comes, or that
-/// memory ran out.
+/// Reads a part that is after the declarations, and after `gone` bytes of the dump.
 pub fn go_on(
     unit: Unit,
     code: &[u8],

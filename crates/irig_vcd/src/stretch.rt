@@ -1,16 +1,4 @@
 //! Stretches of a trace, in which whole pulses are taken in one step.
-//!
-//! A trace follows the level of a wire and keeps its edges. Only those edges are kept that are in
-//! the window that is read, a part of the dump; without a window all are. A pulse is a rise and a
-//! fall, each in a later microsecond than the edge before it. So on a stretch no test is needed
-//! whether several changes are in one microsecond: the steps are fast.
-//!
-//! A trace keeps an edge only when the next one comes. So on a stretch whose edges are kept, the
-//! last fall is not kept yet: it waits, at the trace's time, until the next rise comes.
-//!
-//! Times are in microseconds of the dump. In contracts, `LiesOn` says that the level is low and the
-//! stretch fits the trace, `Follows` which changes a trace has followed, and `edges_kept most` is 2
-//! * `most` + 1: the edges of `most` pulses, and one more, which shows that there are too many.
 
 ghost use Rattle.std.specs.Prelude.{◌≡◌, ◌≤◌, ◌<◌, ◌+◌, ◌++◌, ◌∷◌, [], ◌↔◌, List, true, false};
 ghost use Rattle.std.specs.Prelude.{OnOk, OnErr, IfSome, length};
@@ -22,11 +10,10 @@ use crate::trace::Trace;
 use irig_recording::LENGTH_LIMIT;
 use std::alloc::AllocError;
 
-/// What becomes of the edges from the trace's time on, up to and with the microsecond `limit`.
-///
-/// If `is_kept` is true, all of them are in the window. Each is kept at its time less `from`, where
-/// the window begins; of all edges of the dump the first 2 * `most` + 1 are kept. If it is false,
-/// none of them is in the window, and none is kept.
+/// What becomes of the edges from the trace's time up to and with the microsecond `limit`. If
+/// `is_kept` is true, they are in the window: each is kept at its time less `from` when the next
+/// one comes, and at most 2 * `most` + 1 of all. No two are in one microsecond, so the steps are
+/// fast.
 #[derive(Clone, Copy)]
 pub struct Stretch {
     pub from: u64,
@@ -36,7 +23,6 @@ pub struct Stretch {
 }
 
 impl Trace {
-    /// Whether the level is low after the last change.
     #[inline(always)]
     pub fn is_low(&self) -> bool
         ensures { result ≡ true → self.entry.now.now ≡ false }
@@ -44,13 +30,8 @@ impl Trace {
         !self.now
     }
 
-    /// The stretch that begins at the trace's time. The level has to be low there. Where the time
-    /// is says which:
-    ///
-    /// - before the window: a stretch up to its begin, on which nothing is kept;
-    /// - at its end or later: one up to `LENGTH_LIMIT`, on which nothing is kept;
-    /// - in the window, at a fall whose rise is kept: one up to its end, on which edges are kept;
-    /// - else in the window: `None`, as no fall waits. The next change is taken in the usual way.
+    /// The stretch that begins at the trace's time: before the window, after it, or in it at a fall
+    /// whose rise is kept. Else in the window there is none, as no fall waits.
     #[inline(always)]
     pub fn stretch(&self) -> Option<Stretch>
         requires { self.now.now ≡ false }
@@ -67,7 +48,7 @@ impl Trace {
         if self.time >= to {
             return Some(apart(LENGTH_LIMIT, most));
         }
-        // High before and low now: a fall is at the trace's time. `is_open`: its rise is kept.
+        // High before and low now: a fall is at the trace's time.
         if self.before && self.edges.is_open() {
             return Some(Stretch {
                 from,
@@ -79,8 +60,7 @@ impl Trace {
         None
     }
 
-    /// Whether two edges more can be kept, of the 2 * `most` + 1 that may be kept on the stretch.
-    /// It is false as soon as `most` pulses have both edges.
+    /// Whether two edges more can be kept on the stretch.
     #[inline(always)]
     pub fn has_room(&self, stretch: Stretch) -> bool
         ensures { result ≡ true ↔ (length self.entry.now.edges + 2 ≤ edges_kept stretch.most) }
@@ -88,10 +68,8 @@ impl Trace {
         self.edges.has_room(stretch.most)
     }
 
-    /// Takes the next rise and the next fall, which are on the stretch. If edges are kept there, it
-    /// keeps two: the fall that waits at the trace's time, and `rise`. Then `fall` waits. The
-    /// caller has asked `has_room`. If edges are not kept, the trace only goes on to the time
-    /// `fall`. The level is low after it. It fails only if memory runs out.
+    /// Takes the next rise and the next fall, for which the caller asked `has_room`. If edges are
+    /// kept, the fall that waits is kept with `rise`, and then `fall` waits.
     #[inline(always)]
     pub fn put_pulse(&mut self, rise: u64, fall: u64, stretch: Stretch) -> Result<(), AllocError>
         requires here { LiesOn stretch self.old }
@@ -119,8 +97,7 @@ impl Trace {
     }
 }
 
-/// A stretch up to a limit on which no edge is kept: it is outside the window. `from` is not used
-/// then. `most` is how many pulses may be kept of the whole dump.
+/// A stretch outside the window: no edge is kept, and `from` is not used.
 fn apart(limit: u64, most: usize) -> Stretch
     ensures limit { result.limit ≡ limit }
     ensures most { result.most ≡ most }

@@ -1,16 +1,4 @@
 //! The level of a wire, traced change by change, and its edges.
-//!
-//! Times are in microseconds of the dump, from 0. Only the edges in a window of the dump are kept;
-//! without a window all are. `moved` gives the microsecond of the window, from 0 at its begin, that
-//! a time falls on: all times before the window fall on its begin, all after it on its end.
-//!
-//! Several changes can be in one microsecond: the last one counts. So whether an edge is there is
-//! known only when the trace goes on to a later microsecond of the window. Then an edge is kept if
-//! the level differs from that of the microsecond before.
-//!
-//! In contracts, `Follows` says which changes a trace has followed, `EdgeBefore` that the level is
-//! high at some time before another, and `edges_kept most` is 2 * `most` + 1: the edges of `most`
-//! pulses, and one more, which shows that there are too many.
 
 ghost use Rattle.std.specs.Prelude.{◌≡◌, ◌≤◌, ◌*◌, ◌^◌, true, false, ◌∷◌, [], ◌++◌, ℕ, List};
 ghost use Rattle.std.specs.Prelude.{OnOk, OnErr, IfOk, length, take};
@@ -26,12 +14,9 @@ use crate::window::moved;
 use irig_recording::Edges;
 use std::alloc::{AllocError, Global};
 
-/// A level that was followed up to a time.
-///
-/// `extent` says which edges are kept: the window, and of how many pulses. `time` is the time of
-/// the last change, and `now` the level from it on (`true` is high). `before` is the level in the
-/// microsecond before the one that `time` falls on, and `edges` are those before that microsecond;
-/// an edge at `time` itself is not kept yet. Both are of the window: low, and none, at its begin.
+/// A level that was followed up to `time`, in microseconds of the dump. The last change in a
+/// microsecond counts: so an edge is kept only when the trace goes on to a later one of the window,
+/// if the level differs from that of the microsecond before (`before`).
 #[derive(Drop)]
 pub struct Trace {
     pub extent: Extent,
@@ -57,11 +42,8 @@ impl Trace {
         }
     }
 
-    /// Goes on to `time`, which is not before the last time; the level does not change. `place` is
-    /// the microsecond of the window that the last time falls on. If `time` falls on the same one,
-    /// a further change may come in it, so only the time is noted. If it falls on a later one, the
-    /// level at `place` is settled: if it differs from the level before, an edge is kept there,
-    /// unless there are too many (`keep`). It fails only if memory runs out.
+    /// Goes on to `time`. If it falls on a later microsecond of the window than the last time, the
+    /// level there is settled, and an edge is kept if it differs from the one before.
     fn advance(&mut self, time: u64) -> Result<(), AllocError>
         requires { self.old.time ≤ time }
         ensures ok { OnOk result
@@ -86,8 +68,7 @@ impl Trace {
         Ok(())
     }
 
-    /// Takes the next change: from `time` on, which is not before the last time, the level is high
-    /// (`high`) or low. It fails only if memory runs out.
+    /// Takes the next change: from `time` on the level is high (`high`) or low.
     pub fn put(&mut self, time: u64, high: bool) -> Result<(), AllocError>
         requires { self.old.time ≤ time }
         ensures ok { OnOk result
@@ -105,11 +86,8 @@ impl Trace {
         Ok(())
     }
 
-    /// The edges of the window, each at its microsecond of the window, if the dump ends at `end`.
-    /// `advance` keeps an edge at the last time, if one is there. Then `before` is the level just
-    /// before the end of the window, or of the dump: if it is high, a fall is added there, so that
-    /// the last pulse ends. Of too many edges, one more is kept than `most_pulses` have. It fails
-    /// only if memory runs out.
+    /// The edges of the window if the dump ends at `end`. If the level is high, a fall is added
+    /// there.
     pub fn finish(mut self, end: u64) -> Result<Edges, AllocError>
         requires { self.time ≤ end }
         ensures edges { IfOk result
@@ -127,16 +105,13 @@ impl Trace {
     }
 }
 
-/// Whether two levels differ: one is high and the other low.
 fn differ(level: bool, other: bool) -> bool
     ensures { result ≡ differs level other }
 {
     level != other
 }
 
-/// Adds `edge`, a microsecond of the window, after the other edges, if `is_edge` is true. If there
-/// are more edges already than `most` pulses have, nothing changes: that there are too many can be
-/// seen then. It fails only if memory runs out.
+/// Adds an edge if `is_edge` is true, unless there are more already than `most` pulses have.
 fn keep(edges: &mut Edges, most: usize, is_edge: bool, edge: u64) -> Result<(), AllocError>
     requires limit { most ≤ 2 ^ 26 }
     ensures ok { OnOk result

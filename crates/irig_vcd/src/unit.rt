@@ -1,8 +1,4 @@
 //! The unit of time of a dump.
-//!
-//! A time is a number of units, cut in two. If the unit is shorter than a microsecond, its whole
-//! part counts microseconds, and its rest the units that are left. Else its whole part counts
-//! units.
 
 ghost use Rattle.std.specs.Prelude.{◌≡◌, ◌≤◌, ◌-◌, ◌==◌, nat_le};
 ghost use Rattle.irig_vcd.specs.Code.Time.{factor_of, limit_of};
@@ -29,7 +25,6 @@ impl Model for Unit {
 }
 
 impl Unit {
-    /// The unit of a power of ten of femtoseconds, from 0 to 17.
     pub fn new(exponent: u8) -> Unit
         requires { exponent ≤ 17 }
         ensures { result ≡ exponent }
@@ -37,7 +32,6 @@ impl Unit {
         Unit { exponent }
     }
 
-    /// Whether it is a microsecond, 10^9 femtoseconds.
     #[inline(always)]
     pub fn is_microsecond(self) -> bool
         ensures { result ≡ (self == 9) }
@@ -45,7 +39,6 @@ impl Unit {
         self.exponent == 9
     }
 
-    /// Whether it is a nanosecond, 10^6 femtoseconds.
     #[inline(always)]
     pub fn is_nanosecond(self) -> bool
         ensures { result ≡ (self == 6) }
@@ -53,15 +46,13 @@ impl Unit {
         self.exponent == 6
     }
 
-    /// Whether a microsecond is a whole number of units: the unit is a microsecond or shorter.
     pub fn divides_microsecond(self) -> bool
         ensures { result ≡ nat_le self 9 }
     {
         self.exponent <= 9
     }
 
-    /// How many of the last decimal digits of a number of units are the rest of the time, below one
-    /// microsecond: 0 if the unit is a microsecond or longer, 9 for femtoseconds.
+    /// How many of the last decimal digits of a number of units are below one microsecond.
     #[inline(always)]
     pub fn digits_below(self) -> u8
         ensures value { result ≡ 9 - self }
@@ -70,8 +61,7 @@ impl Unit {
         9u8.saturating_sub(self.exponent)
     }
 
-    /// The largest whole part of a time that is at most 2^40 microseconds (`LENGTH_LIMIT`): 2^40
-    /// divided by `factor`, rounded down.
+    /// The largest whole part of a time that is at most 2^40 microseconds.
     #[tactic(auto, unfolding(crate::specs::Code::Time::limit_of))]
     pub fn limit(self) -> u64
         ensures { result ≡ limit_of self }
@@ -89,8 +79,7 @@ impl Unit {
         }
     }
 
-    /// How many microseconds 1 of the whole part of a time is: as many as the unit has if it is
-    /// longer than a microsecond, else 1.
+    /// How many microseconds 1 of the whole part of a time is.
     #[tactic(auto, unfolding(crate::specs::Code::Time::factor_of))]
     pub fn factor(self) -> u64
         ensures { result ≡ factor_of self }
