@@ -1,7 +1,4 @@
-//! What the system answers to a call that is done: a type for each call.
-//!
-//! Each answer is made here alone, by what the system says of its call. So nobody can answer for a
-//! call that was not made, or that failed.
+//! What the system answers to a call that is done: a type for each call, which is made here alone.
 
 ghost use Rattle.std.specs.Prelude.{◌≡◌, ◌↔◌, IfErr, IsOk, OnOk};
 ghost use Rattle.std.specs.IoError.{error_kind};
@@ -10,12 +7,10 @@ use crate::system_fault::SystemFault;
 use std::io;
 use std::io::ErrorKind;
 
-/// The system wrote bytes.
 #[derive(Drop)]
 pub struct Appended(());
 
 impl Appended {
-    /// The answer of a call that writes bytes.
     pub(crate) fn by(outcome: io::Result<()>) -> Result<Appended, SystemFault>
         ensures { IsOk result ↔ IsOk outcome }
     {
@@ -26,12 +21,10 @@ impl Appended {
     }
 }
 
-/// The system changed a mode.
 #[derive(Drop)]
 pub struct ModeTaken(());
 
 impl ModeTaken {
-    /// The answer of a call that changes a mode.
     pub(crate) fn by(outcome: io::Result<()>) -> Result<ModeTaken, SystemFault>
         ensures { IsOk result ↔ IsOk outcome }
     {
@@ -42,12 +35,10 @@ impl ModeTaken {
     }
 }
 
-/// The system says that it keeps a file.
 #[derive(Drop)]
 pub struct FileSynced(());
 
 impl FileSynced {
-    /// The answer of a call that syncs a file.
     pub(crate) fn by(outcome: io::Result<()>) -> Result<FileSynced, SystemFault>
         ensures { IsOk result ↔ IsOk outcome }
     {
@@ -58,12 +49,10 @@ impl FileSynced {
     }
 }
 
-/// The system gave a file another name.
 #[derive(Drop)]
 pub struct Renamed(());
 
 impl Renamed {
-    /// The answer of a call that renames a file.
     pub(crate) fn by(outcome: io::Result<()>) -> Result<Renamed, SystemFault>
         ensures { IsOk result ↔ IsOk outcome }
     {
@@ -74,12 +63,10 @@ impl Renamed {
     }
 }
 
-/// The system freed a name.
 #[derive(Drop)]
 pub struct NameRemoved(());
 
 impl NameRemoved {
-    /// The answer of a call that removes a file.
     pub(crate) fn by(outcome: io::Result<()>) -> Result<NameRemoved, SystemFault>
         ensures { IsOk result ↔ IsOk outcome }
     {
@@ -90,13 +77,12 @@ impl NameRemoved {
     }
 }
 
-/// The system says that it keeps the names of a folder.
 #[derive(Drop)]
 pub struct NamesSynced(());
 
 impl NamesSynced {
-    /// The answer of a call that syncs a folder. A file system that cannot sync a folder says that
-    /// the call is invalid; that counts as kept, as nobody can ask that system for more.
+    /// A file system that cannot sync a folder says that the call is invalid. That counts as kept,
+    /// as nobody can ask that system for more.
     pub(crate) fn by(outcome: io::Result<()>) -> Result<NamesSynced, SystemFault>
         ensures ok { OnOk outcome (IsOk result) }
         ensures err { IfErr outcome (λ error. IsOk result

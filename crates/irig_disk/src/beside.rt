@@ -1,16 +1,4 @@
 //! A new file next to its target, under a name that is free.
-//!
-//! The target is the name that the text is to have. A stem is what the name of a new file begins
-//! with; a number is after it, from 0. `folder` makes the calls of the system, `dir` is the open
-//! folder in which all these names are, and `name` the memory for the name that is tried. A hidden
-//! file is its owner's alone. An error (`PutFault`) is `NamesTaken`, the fault of a call
-//! (`Failed`), or that memory ran out (`Memory`). `is_told` says whether the contracts know what
-//! the folders hold: true of folders in memory, false of those of the system. In a contract,
-//! `IsWriting` says that the new file is there and has these bytes so far, none (`[]`) here;
-//! `IsUnchanged` and `NotBegun` that nothing has changed; `IsPassed` that a name cannot be used,
-//! and `AllTaken` that none can.
-//!
-//! Where `match` hands an error on, `?` would do the same; the proof of it takes longer.
 
 ghost use Rattle.std.specs.Prelude.{◌≡◌, ◌≢◌, ◌↔◌, [], string_bytes, IfOk, IfErr, MatchOption};
 ghost use Rattle.std.specs.Prelude.{OnOk, IsErrOf, IsTrue};
@@ -25,9 +13,8 @@ use crate::name::is_name;
 use crate::new_text::NAMES;
 use std::alloc::AllocError;
 
-/// Makes a new file, under the first name that is free and is not the target's, and leaves that
-/// name in `name`. Names are tried with the numbers from 0 up to `NAMES`, 10,000, which is not
-/// included. `NamesTaken` if none of them is free. Nothing has changed after an error.
+/// Makes a new file under the first name that is free, and leaves that name in `name`. Numbers are
+/// tried from 0 up to `NAMES`, which is not included; `NamesTaken` if none is free.
 pub(crate) fn make_beside<F: Folder>(
     folder: &mut F,
     dir: &F::Dir,
@@ -57,10 +44,8 @@ pub(crate) fn make_beside<F: Folder>(
     Err(PutFault::NamesTaken)
 }
 
-/// Makes a new file under the stem and this number, a name that it leaves in `name`. `None` if that
-/// name is taken, is the target's, or is no single name (it has a `/`): the next number is to be
-/// tried. Nothing has changed after `None` or an error. In the clauses, `start` is a state since
-/// which nothing has changed: the one before the first number was tried.
+/// `None`: the name is taken, is the target's, or is no single name. `start` is a state since which
+/// nothing has changed: the one before the first number was tried.
 fn make_at<F: Folder>(
     folder: &mut F,
     dir: &F::Dir,
@@ -92,9 +77,7 @@ fn make_at<F: Folder>(
     }
 }
 
-/// Writes the name of a new file to `name`: the stem and the number. Returns whether a file may be
-/// made under it: it is a single name in a folder, without `/`, and not the target's own. It fails
-/// only if memory runs out.
+/// Writes the stem and the number to `name`, and returns whether a file may be made under it.
 fn put_name(name: &mut String, target: &str, stem: &str, number: u32) -> Result<bool, AllocError>
     ensures name { OnOk result (string_bytes name.new ≡ name_after stem.now number) }
     ensures apart { IfOk result (λ apart. IsTrue apart

@@ -1,11 +1,4 @@
 //! Single system calls on the names of open folders.
-//!
-//! A ghost item is for contracts alone: it is nothing in the program. To keep something is to have
-//! it survive a crash. To sync is to ask the system to keep something. The mode of a file says who
-//! may read and write it. `Err` is the fault of the call. `Elapses` in a contract says that time
-//! goes on: what a crash might have left at an earlier moment stays on record. `Stays` says that
-//! nothing has changed, `MaySpoil` that nothing but this file has, and it may hold anything; each
-//! other word says what the comment of its method says.
 
 ghost use Rattle.std.specs.Prelude.{◌≡◌, ◌≤◌, ◌⊎◌, ℕ, List, Option, OnOk, OnErr, MatchResult, Bool};
 ghost use Rattle.std.specs.Prelude.{IsTrue, MatchOption};
@@ -15,43 +8,30 @@ ghost use Rattle.irig_disk.specs.Calls.{MaySpoil, SyncedNames, mode_made};
 ghost use Rattle.irig_disk.specs.Moves.{IsMoved, IsNotMoved, Removed, NotRemoved};
 ghost use Rattle.irig_disk.specs.{Held.Held, Name.IsName, Stays.Stays};
 
-/// The names of open folders. Each method is one call, and its contract says what a crash may leave
-/// after it: of a name, what it leads to now or led to since the last `sync_names`; of a file that
-/// was changed since its last `sync_file`, anything. A name has one component, without `/`; no
-/// contract says where a longer path leads.
-///
-/// A call that succeeds returns a value of a type that only this call can make. So nobody can
-/// answer that a call succeeded without making it.
+/// Each method is one call, and its contract says what a crash may leave after it: of a name, what
+/// it leads to now or led to since the last `sync_names`; of a file that was changed since its last
+/// `sync_file`, anything. What a call that succeeds returns, only this call can make.
 pub trait Folder {
-    /// An open folder.
     type Dir: Drop;
 
     /// A new file that is open. Only `make` gives one.
     type File: Drop;
 
-    /// Bytes were written. Only `append` gives one.
     type Appended: Drop;
 
-    /// A mode was taken. Only `take_mode` gives one.
     type ModeTaken: Drop;
 
-    /// A file is kept. Only `sync_file` gives one.
     type FileSynced: Drop;
 
-    /// A file has another name. Only `rename` gives one.
     type Renamed: Drop;
 
-    /// A name is free. Only `remove` gives one.
     type NameRemoved: Drop;
 
-    /// The names are kept. Only `sync_names` gives one.
     type NamesSynced: Drop;
 
-    /// Why a call failed. Only a call gives one.
     type Fault: Drop;
 
-    /// Whether the contracts know the state below: true of folders in memory, false of the system,
-    /// whose contracts say nothing.
+    /// Whether the contracts know the state: true of folders in memory, false of the system.
     ghost is_told: { Bool };
 
     /// The mode of a new file that is not hidden.
@@ -60,15 +40,11 @@ pub trait Folder {
     /// What is seen, and what a crash may leave.
     ghost disk: { Self → Disk };
 
-    /// The place that a name in a folder is.
     ghost place: { Self.Dir → List ℕ → List ℕ };
 
-    /// The number of an open file.
     ghost number: { Self.File → ℕ };
 
-    /// Makes a new file under a name if it is free, and opens it; a hidden one can be read and
-    /// written by its owner alone. `None`: the name is taken. After `None` or an error nothing has
-    /// changed.
+    /// Makes a new file if the name is free, else `None`; a hidden one is its owner's alone.
     fn make(
         &mut self,
         dir: &Self::Dir,
@@ -92,8 +68,7 @@ pub trait Folder {
         ensures same { number file.new ≡ number file.old }
         ensures time { IsTrue is_told → Elapses (disk self.old) (disk self.new) };
 
-    /// Gives the file a mode. After an error the contract says nothing of what this file holds; all
-    /// else is as it was.
+    /// Gives the file a mode. After an error the file may hold anything.
     fn take_mode(&mut self, file: &Self::File, mode: u32) -> Result<Self::ModeTaken, Self::Fault>
         ensures ok { IsTrue is_told → OnOk result
             (TookMode (disk self.old) (disk self.new) (number file.now) mode) }
@@ -101,8 +76,7 @@ pub trait Folder {
             (MaySpoil (disk self.old) (disk self.new) (number file.now)) }
         ensures time { IsTrue is_told → Elapses (disk self.old) (disk self.new) };
 
-    /// Keeps what the file holds: after it, a crash leaves that. After an error the contract says
-    /// nothing of what this file holds; all else is as it was.
+    /// Keeps what the file holds over a crash. An error is like that of `take_mode`.
     fn sync_file(&mut self, file: &Self::File) -> Result<Self::FileSynced, Self::Fault>
         ensures ok { IsTrue is_told → OnOk result
             (SyncedFile (disk self.old) (disk self.new) (number file.now)) }
@@ -110,8 +84,8 @@ pub trait Folder {
             (MaySpoil (disk self.old) (disk self.new) (number file.now)) }
         ensures time { IsTrue is_told → Elapses (disk self.old) (disk self.new) };
 
-    /// Gives the file of the name `from` the name `to`, instead of the file that had it, in one
-    /// step. After an error the names are seen as they were, but a crash may show the new ones.
+    /// Gives a file another name, instead of the file that had it, in one step. After an error the
+    /// names are seen as they were, but a crash may show the new ones.
     fn rename(
         &mut self,
         dir: &Self::Dir,
@@ -126,8 +100,7 @@ pub trait Folder {
             (place dir.now to.now)) }
         ensures time { IsTrue is_told → Elapses (disk self.old) (disk self.new) };
 
-    /// Frees a name: no file has it then. After an error the name is seen as it was, but a crash
-    /// may leave it free.
+    /// Frees a name. After an error it is seen as it was, but a crash may leave it free.
     fn remove(&mut self, dir: &Self::Dir, name: &str) -> Result<Self::NameRemoved, Self::Fault>
         ensures ok { IsTrue is_told → OnOk result
             (Removed (disk self.old) (disk self.new) (place dir.now name.now)) }
@@ -135,8 +108,7 @@ pub trait Folder {
             (NotRemoved (disk self.old) (disk self.new) (place dir.now name.now)) }
         ensures time { IsTrue is_told → Elapses (disk self.old) (disk self.new) };
 
-    /// Keeps the names in a folder: after it, a crash leaves each as it is seen. An error changes
-    /// nothing: a crash may still leave the names as they were before.
+    /// Keeps the names in a folder over a crash. An error changes nothing.
     fn sync_names(&mut self, dir: &Self::Dir) -> Result<Self::NamesSynced, Self::Fault>
         ensures ok { IsTrue is_told → OnOk result
             (SyncedNames (disk self.old) (disk self.new) (place dir.now)) }
@@ -147,13 +119,12 @@ pub trait Folder {
     ghost apart: { (dir : Self.Dir) (a : List ℕ) (b : List ℕ) → IsName a → IsName b
         → place dir a ≡ place dir b → a ≡ b };
 
-    /// This moment is one of those since an earlier one: what a crash may leave now counts as left
-    /// since then.
+    /// What a crash may leave now counts as left since each earlier moment.
     ghost counts_now: { (folder : Self) (t : ℕ) (name : List ℕ) (c : Option Held)
         → t ≤ (disk folder).moment → MayLeave (disk folder) name c
         → (disk folder).left_since t name c };
 
-    /// Since this moment there is no other: what a crash since now left, a crash may leave now.
+    /// What a crash since now left, a crash may leave now: there is no later moment.
     ghost only_now: { (folder : Self) (name : List ℕ) (c : Option Held)
         → (disk folder).left_since (disk folder).moment name c → MayLeave (disk folder) name c };
 }

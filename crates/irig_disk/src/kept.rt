@@ -10,7 +10,6 @@ pub struct Kept {
 }
 
 impl Kept {
-    /// How many bytes the text has.
     pub fn count(&self) -> u64
         ensures { result ≡ self.now.count }
     {

@@ -1,20 +1,4 @@
-//! A text of a target, given in parts, written whole: a crash at any moment leaves the old text or
-//! the new one.
-//!
-//! The target is the name that the text is to have. A stem is what the name of a new file begins
-//! with; a number is after it. A hidden file is its owner's alone. The new file is `beside` the
-//! target, under a name of its own in the same folder, until it takes the target's name. To sync is
-//! to ask the system to keep something over a crash. `folder` makes the calls, `F::Fault` is the
-//! error of one, and `F.is_told` says whether its contracts report what the folders have; a
-//! `PutFault` says what a write that failed leaves.
-//!
-//! In clauses `start` is the state of the folders before the new file was made, and `F.place dir
-//! name` a name in a folder. `at` says where the text is being written and with which modes: what
-//! `underway_of` makes of a `NewText`. `text` is what is written so far, with the mode of the end.
-//! `Adds` says that the new file has these bytes more since an earlier state, `AddsSome` that it
-//! has the first n of them more, for some n.
-//!
-//! Where `match` hands an error on, `?` would do the same; the proof of it takes longer.
+//! A text of a target, given in parts, written whole: a crash leaves the old text or the new one.
 
 ghost use Rattle.std.specs.Prelude.{◌≡◌, ◌+◌, ◌-◌, ◌^◌, [], length, min, IfOk};
 ghost use Rattle.std.specs.Prelude.{IfErr, OnOk, OnErr, IsErrOf, IsTrue};
@@ -32,20 +16,16 @@ use crate::folder::Folder;
 use crate::kept::Kept;
 use crate::placing::{clear, give_mode, keep, rename_synced};
 
-/// How many names are tried for a new file. Each is free unless another run uses it, or a crash
-/// left it; ten thousand are more than enough, and the search has an end.
+/// How many names are tried. Each is free unless another run uses it, or a crash left it.
 pub(crate) const NAMES: u32 = 10_000;
 
 /// A new file next to its target, whose name it takes in the end.
 #[derive(Drop)]
 pub struct NewText<'n, F: Folder> {
-    /// The new file, open.
     file: F::File,
-    /// The open folder of both names.
     dir: &'n F::Dir,
     /// The name of the new file until it takes the target's.
     beside: &'n str,
-    /// The name that the text is to have.
     target: &'n str,
     /// The mode that the file takes at the end; `None`: it keeps the usual one.
     mode: Option<u32>,
@@ -54,10 +34,8 @@ pub struct NewText<'n, F: Folder> {
 }
 
 impl<'n, F: Folder> NewText<'n, F> {
-    /// Makes the new file, under the first name that is free: the stem and a number from 0. The
-    /// name is written to `name`. If the file is to take a mode, it is hidden until then, since
-    /// that mode may keep others out. After an error no file is made: all names are taken, a call
-    /// failed, or memory ran out.
+    /// Makes the new file under the stem and the first number that is free. If it is to take a
+    /// mode, it is hidden until then, since that mode may keep others out.
     pub fn begin(
         folder: &mut F,
         dir: &'n F::Dir,
@@ -93,9 +71,8 @@ impl<'n, F: Folder> NewText<'n, F> {
         }
     }
 
-    /// Writes a part at the end of the new file, and counts its bytes, up to 2^64 - 1 in all. `Ok`:
-    /// the whole part is written; what the folder's own call answers is handed on. After an error
-    /// some of the part may be written, and it is not counted, so call `give_up` then.
+    /// Writes a part at the end of the new file. After an error some of it may be written, which is
+    /// not counted: so call `give_up` then.
     pub fn append(&mut self, folder: &mut F, part: &[u8]) -> Result<F::Appended, F::Fault>
         ensures dir { self.new.dir.now ≡ self.old.dir.now }
         ensures beside { self.new.beside.now ≡ self.old.beside.now }
@@ -115,9 +92,7 @@ impl<'n, F: Folder> NewText<'n, F> {
     }
 
     /// Gives the text its mode and its name, and keeps both over a crash. If it fails before the
-    /// text has the name, the new file is removed: `Failed`, or `LeftBehind` if that could not be
-    /// done. `NotKept` if it fails after that: the text is there, but a crash can bring the old one
-    /// back.
+    /// text has the name, the new file is removed; `NotKept` if it fails after that.
     pub fn finish(self, folder: &mut F) -> Result<Kept, PutFault<F::Fault>>
         requires { IsName self.target.now }
         ensures ok { IsTrue F.is_told → WhileUnderway F.disk folder.old
@@ -137,8 +112,7 @@ impl<'n, F: Folder> NewText<'n, F> {
         }
     }
 
-    /// Removes the new file, after a fault. The target stays as it was. `Err`: the new file is
-    /// still there. The removal is not synced, so a crash can undo it.
+    /// Removes the new file, after a fault. The removal is not synced, so a crash can undo it.
     pub fn give_up(self, folder: &mut F) -> Result<F::NameRemoved, F::Fault>
         ensures ok { IsTrue F.is_told → WhileInAnyMode F.disk folder.old
             (underway_of F.place F.number F.usual_mode self.entry) (λ start _.
@@ -157,8 +131,7 @@ impl<'n, F: Folder> NewText<'n, F> {
     }
 }
 
-/// Gives a text its mode and its name, or removes its new file if that fails: `Failed`, or
-/// `LeftBehind` if it could not be removed.
+/// Gives a text its mode and its name, or removes its new file if that fails.
 fn place_or_clear<F: Folder>(folder: &mut F, new: &NewText<'_, F>) -> Result<(), PutFault<F::Fault>>
     ensures ok { IsTrue F.is_told → WhileUnderway F.disk folder.old
         (underway_of F.place F.number F.usual_mode new.now) (λ start at text.
@@ -176,9 +149,8 @@ fn place_or_clear<F: Folder>(folder: &mut F, new: &NewText<'_, F>) -> Result<(),
     }
 }
 
-/// Gives a new file the mode, syncs what it holds, and gives it the target's name. In this order:
-/// under the target's name a file never has another mode or a part of the text. `Err` is the fault
-/// of the first call that fails; the target is then seen as it was.
+/// In this order a file never has another mode, or a part of the text, under the target's name.
+/// `Err` is the first fault; the target is then seen as it was.
 fn place<F: Folder>(folder: &mut F, new: &NewText<'_, F>) -> Result<F::Renamed, F::Fault>
     ensures ok { IsTrue F.is_told → WhileUnderway F.disk folder.old
         (underway_of F.place F.number F.usual_mode new.now) (λ start at text.

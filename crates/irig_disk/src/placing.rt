@@ -1,14 +1,4 @@
-//! The calls that give a new file the name of its target, in their order: it takes its mode, is
-//! synced and renamed, and the names of the folder are synced. If one fails before the file has the
-//! name, the file is removed.
-//!
-//! The new file is `beside` the target, under a name of its own in the same folder, until it takes
-//! the target's name. To sync is to ask the system to keep something over a crash. `folder` makes
-//! the calls, `F::Fault` is the error of one, and `F.is_told` says whether its contracts report
-//! what the folders have. In clauses `start` is the state of the folders before the new file was
-//! made, and `F.place dir name` a name in a folder.
-//!
-//! Where `match` hands an error on, `?` would do the same; the proof of it takes longer.
+//! The calls that give a new file the name of its target, in their order.
 
 ghost use Rattle.std.specs.Prelude.{◌≡◌, ℕ, List, IfErr, IfOk, IsTrue, OnErr, OnOk};
 ghost use Rattle.irig_disk.specs.Put.{IsKept, OldOrNewIfThere, first_mode, last_mode};
@@ -20,8 +10,7 @@ use crate::fault::{PutFault, fault_after};
 use crate::folder::Folder;
 use crate::kept::Kept;
 
-/// Gives a new file the mode, if there is one to give; without one (`None`) it keeps the usual
-/// mode. `Err` is the fault of the call that gives it.
+/// Gives a new file the mode, if there is one to give; else it keeps the usual one.
 pub(crate) fn give_mode<F: Folder>(
     folder: &mut F,
     file: &F::File,
@@ -44,9 +33,7 @@ pub(crate) fn give_mode<F: Folder>(
     }
 }
 
-/// Syncs what a new file holds, so that no crash leaves the target a part of it, and gives it the
-/// target's name. `Err` is the fault of the call that failed; after that of the sync no name
-/// changes.
+/// Syncs what a new file holds, so that no crash leaves the target a part of it, and renames it.
 pub(crate) fn rename_synced<F: Folder>(
     folder: &mut F,
     file: &F::File,
@@ -69,9 +56,7 @@ pub(crate) fn rename_synced<F: Folder>(
     }
 }
 
-/// Syncs the names of the folder, so that each crash from then on leaves the new text under the
-/// target's name. `count` is how many bytes the text has. `NotKept`: the text is there, but a crash
-/// can bring the old one back.
+/// Syncs the names of the folder. `NotKept`: a crash can bring the old text back.
 pub(crate) fn keep<F: Folder>(
     folder: &mut F,
     dir: &F::Dir,
@@ -92,10 +77,8 @@ pub(crate) fn keep<F: Folder>(
     }
 }
 
-/// Removes the new file, `beside`, of a text that did not get its name, after a fault. The answer
-/// says what is left: `Failed` with the fault, or `LeftBehind` if the removal failed, too. After a
-/// rename that failed a crash can still leave the new text at the target: nobody knows what of the
-/// call was done.
+/// Removes a new file that did not get its name, and says what is left. After a rename that failed
+/// a crash can still leave the new text: nobody knows what of the call was done.
 pub(crate) fn clear<F: Folder>(
     folder: &mut F,
     dir: &F::Dir,

@@ -1,17 +1,4 @@
 //! A text written whole, in one call.
-//!
-//! A new file (`NewText`) gets the text; then it takes the target's name, that of the file to be
-//! replaced. A block is memory in which parts of the text wait to be written together. `None`
-//! instead of the fault of a call says that memory ran out, or that the text has more than 2^64 - 1
-//! bytes. `PutFault` says what a write that did not succeed leaves, and `Kept` that the text was
-//! written and each crash from then on leaves it. `folder` makes the calls of the system. `is_told`
-//! says whether the contracts know what the folders hold: true of folders in memory, false of those
-//! of the system. `T::rest` is the bytes of a text that are still to come. In the clauses, `start`
-//! is the state before the new file was made, `at` says where the text is being written, and `text`
-//! or `so_far` what is written, with the mode of the end. `Adds` says that the new file has these
-//! bytes more since an earlier state, `Spoils` that a call failed and it may have any bytes.
-//!
-//! Where `match` hands an error on, `?` would do the same; the proof of it takes longer.
 
 ghost use Rattle.std.specs.Prelude.{◌≡◌, ◌<◌, ◌≤◌, ◌++◌, ◌+◌, ◌^◌, ℕ, List, [], false, true};
 ghost use Rattle.std.specs.Prelude.{length, IfOk, IfErr, IfSome, OnOk, OnErr, OnSome, IsOk, IsSome};
@@ -31,11 +18,9 @@ use crate::new_text::NewText;
 use irig_text::{ENOUGH, Text};
 
 /// Writes a text to the name `target` in the open folder `dir`, with a mode (`None`: the usual
-/// one). Until the new file takes the target's name, its own is `stem` and a number. `name` is the
-/// memory for that name, and `block` that for the parts of the text; what both hold before is lost.
-/// After `Memory`, `NamesTaken` and `Failed` all is seen as it was; after `LeftBehind` and
-/// `Remains`, too, but the new file is still there. If a rename was tried, a crash can still bring
-/// the new text. After `NotKept` the new text is there, but a crash can bring the old one back.
+/// one). Until the new file takes that name, its own is `stem` and a number. `name` and `block` are
+/// memory for that and for parts of the text; what they hold is lost. README says what a fault
+/// leaves.
 pub fn put_text<F: Folder, T: Text>(
     folder: &mut F,
     dir: &F::Dir,
@@ -47,8 +32,7 @@ pub fn put_text<F: Folder, T: Text>(
     block: &mut Vec<u8>,
 ) -> Result<Kept, PutFault<F::Fault>>
     requires { IsName target.now }
-    // A crash at any moment of the call leaves the old text at the target or the new one, whole,
-    // and each other name that was there as it was.
+    // A crash at any moment leaves the old text or the new one, and each other name as it was.
     ensures any_moment { IsTrue F.is_told → LeavesOnly (F.disk folder.old) (F.disk folder.new)
         (OldOrNewIfThere (F.disk folder.old) (F.place dir.now target.now)
         (held F.usual_mode mode (T.rest text.old))) }
@@ -66,9 +50,7 @@ pub fn put_text<F: Folder, T: Text>(
     put_begun(folder, begun, text, block)
 }
 
-/// Writes the text to the new file that `NewText::begin` made, and gives the file the target's
-/// name; if the write fails, the file is removed (`finish_or_give_up` gives the answer). `begun` is
-/// what `begin` answered: if it is a fault, no file was made, and that fault is the answer here.
+/// `begun` is what `NewText::begin` answered. If it is a fault, that is the answer here.
 fn put_begun<F: Folder, T: Text>(
     folder: &mut F,
     begun: Result<NewText<'_, F>, PutFault<F::Fault>>,
@@ -94,11 +76,8 @@ fn put_begun<F: Folder, T: Text>(
     }
 }
 
-/// Ends a write. `written` says how the write of the text to the new file went. If all is written,
-/// the new file gets the target's name, and the answer is that of `NewText::finish`. Else the file
-/// is removed: the error in `written` is the fault of a call, or `None` if memory ran out or the
-/// text is too long. The answer is then `Failed` or `Memory`; or, if the file could not be removed,
-/// `LeftBehind` or `Remains` (`fault_after`).
+/// Ends a write: the new file gets the target's name, or is removed if `written` has a fault. That
+/// is one of a call, or `None` if memory ran out or the text is too long.
 fn finish_or_give_up<F: Folder>(
     folder: &mut F,
     new: NewText<'_, F>,
@@ -122,8 +101,7 @@ fn finish_or_give_up<F: Folder>(
     }
 }
 
-/// Writes all of a text to the new file, block by block. An error is the fault of a call, or
-/// `None`: memory ran out, or the text is too long. A part of the text may be in the file then.
+/// Writes all of a text to the new file, block by block. Of an error a part may be in the file.
 fn append_all<F: Folder, T: Text>(
     folder: &mut F,
     new: &mut NewText<'_, F>,
@@ -151,9 +129,7 @@ fn append_all<F: Folder, T: Text>(
     }
 }
 
-/// Writes the next block of a text to the new file, and returns whether it was the last one. A
-/// block that is not the last has at least `ENOUGH` bytes, 64 KiB. An error is the fault of a call
-/// (`append_block`); or `None` if memory ran out, or the text is too long (`fill_next`).
+/// Writes the next block of a text to the new file, and returns whether it was the last one.
 fn append_next<F: Folder, T: Text>(
     folder: &mut F,
     new: &mut NewText<'_, F>,
@@ -183,8 +159,7 @@ fn append_next<F: Folder, T: Text>(
     }
 }
 
-/// Writes a block of a text to the new file, and returns `ended` as it is given: whether the block
-/// is the last one. An error is always `Some`: the fault of a call.
+/// Returns `ended` as it is given: whether the block is the last one.
 fn append_block<F: Folder>(
     folder: &mut F,
     new: &mut NewText<'_, F>,
@@ -212,8 +187,7 @@ fn append_block<F: Folder>(
 }
 
 /// Fills the block with the next bytes of a text, and returns whether they are its last ones.
-/// `before` is how many bytes were written already. `None`: memory ran out, or all these bytes
-/// together are more than 2^64 - 1, which no count holds.
+/// `None`: memory ran out, or no count holds these and the `before` bytes written already.
 fn fill_next<T: Text>(text: &mut T, block: &mut Vec<u8>, before: u64) -> Option<bool>
     ensures bytes { OnSome result (T.rest text.old ≡ block.new.items ++ T.rest text.new) }
     ensures end { IfSome result (λ ended. ended ≡ true → T.rest text.new ≡ []) }

@@ -1,9 +1,4 @@
 //! A folder of the system: each method is one call, whose outcome makes the answer (`answers`).
-//!
-//! A runtime makes the calls of the system. Paths are built in `one` and `other`, whose memory is
-//! taken before the first call. The contracts say nothing of what the disk holds (`is_told` is
-//! false). What each method does is said with the trait, in `folder`. A `SystemFault` is the error
-//! of the system, or that a path is longer than the memory for it and no more is there.
 
 ghost use Rattle.std.specs.Prelude.{◌≡◌, ◌≤◌, ◌+◌, ◌↔◌, IfErr, IfOk, IsOk, IsSome, IsTrue, None, OnErr};
 ghost use Rattle.std.specs.Prelude.{OnOk, false, true};
@@ -23,7 +18,6 @@ use std::path::PathBuf;
 use std::rt::Files;
 use std::{fs, io};
 
-/// The names of folders of the system.
 #[derive(Drop)]
 pub struct SystemFolder<'a, R: Files> {
     runtime: &'a R,
@@ -32,8 +26,7 @@ pub struct SystemFolder<'a, R: Files> {
 }
 
 impl<'a, R: Files> SystemFolder<'a, R> {
-    /// The names of folders that a runtime opens. The memory of their paths is taken here. It fails
-    /// only if memory runs out.
+    /// The names of folders that a runtime opens. The memory of their paths is taken here.
     pub fn new(alloc: Global, runtime: &'a R) -> Result<Self, AllocError>
         ensures runtime { IfOk result (λ folder. folder.runtime.now ≡ runtime.now) }
         ensures room { IfOk result (λ folder. 4_095 + 1 + 4_095 ≤ path_buf_cap folder.one) }
@@ -46,7 +39,6 @@ impl<'a, R: Files> SystemFolder<'a, R> {
         })
     }
 
-    /// The runtime, which makes the calls.
     pub fn runtime(&self) -> &'a R
         ensures { result.now ≡ self.now.runtime.now }
     {
@@ -89,8 +81,6 @@ impl<R: Files> Folder for SystemFolder<'_, R> {
 
     ghost only_now = { λ _ _ _ left. absurd left };
 
-    // Makes a new file under a name in a folder if that is free, a hidden one for its owner alone.
-    // `None`: the name is taken. Any other error of the system is the fault.
     fn make(
         &mut self,
         dir: &SystemDir<R::File>,
@@ -101,7 +91,6 @@ impl<R: Files> Folder for SystemFolder<'_, R> {
         made(new_file(hidden).open(self.runtime, self.one.as_str()))
     }
 
-    // Writes bytes at the end of a file. If it fails, some may be written.
     fn append(
         &mut self,
         file: &mut SystemFile<R::File>,
@@ -110,7 +99,6 @@ impl<R: Files> Folder for SystemFolder<'_, R> {
         append_all(file, bytes)
     }
 
-    // Gives a file a mode: the bits that say who may read and write it.
     fn take_mode(
         &mut self,
         file: &SystemFile<R::File>,
@@ -119,13 +107,11 @@ impl<R: Files> Folder for SystemFolder<'_, R> {
         ModeTaken::by(file.0.set_permissions(Permissions::from_mode(mode)))
     }
 
-    // Asks the system to keep what a file holds over a crash.
     fn sync_file(&mut self, file: &SystemFile<R::File>) -> Result<FileSynced, SystemFault> {
         FileSynced::by(file.0.sync_all())
     }
 
-    // Gives the file of the name `from` in a folder the name `to`, instead of the file that had it,
-    // in one step. It fails if no file has the name `from`.
+    // It fails if no file has the name `from`.
     fn rename(
         &mut self,
         dir: &SystemDir<R::File>,
@@ -137,14 +123,13 @@ impl<R: Files> Folder for SystemFolder<'_, R> {
         Renamed::by(fs::rename(self.runtime, self.one.as_str(), self.other.as_str()))
     }
 
-    // Frees a name in a folder: no file has it then. It fails if none had it.
+    // It fails if no file had the name.
     fn remove(&mut self, dir: &SystemDir<R::File>, name: &str) -> Result<NameRemoved, SystemFault> {
         put_path(&mut self.one, dir.path.as_str(), name)?;
         NameRemoved::by(fs::remove_file(self.runtime, self.one.as_str()))
     }
 
-    // Asks the system to keep the names of a folder over a crash. If no folder is open, the fault
-    // is `NotFound`. A file system that cannot sync a folder counts as if it did (`NamesSynced`).
+    // If no folder is open, the fault is `NotFound`.
     fn sync_names(&mut self, dir: &SystemDir<R::File>) -> Result<NamesSynced, SystemFault> {
         let Some(folder) = &dir.file else {
             return Err(SystemFault(io::Error::from(ErrorKind::NotFound)));
@@ -153,12 +138,10 @@ impl<R: Files> Folder for SystemFolder<'_, R> {
     }
 }
 
-/// A new file of the system, open to be written.
 #[derive(Drop)]
 pub struct SystemFile<F: Drop>(F);
 
-/// The answer of `make`, by what the system says of the new file: `None` only if its name is taken.
-/// It is a function of its own for its contract: that of `make` says nothing of the real system.
+/// The answer of `make`. It is on its own for its contract, as `make` says nothing of the system.
 fn made<F: Drop>(opened: io::Result<F>) -> Result<Option<SystemFile<F>>, SystemFault>
     ensures some { OnOk opened (IfOk result (λ file. IsSome file)) }
     ensures done { OnOk opened (IsOk result) }
@@ -174,7 +157,7 @@ fn made<F: Drop>(opened: io::Result<F>) -> Result<Option<SystemFile<F>>, SystemF
 }
 
 /// How a new file is opened: only if no file has its name. A hidden one has mode 600 (octal), which
-/// no contract can say; any other one what the process gives to a new file.
+/// no contract can say.
 fn new_file(hidden: bool) -> OpenOptions
     ensures write { IsTrue (asks_write result) }
     ensures new { IsTrue (asks_create_new result) }
@@ -189,8 +172,7 @@ fn new_file(hidden: bool) -> OpenOptions
     how
 }
 
-/// Writes all of the bytes at the end of a file. It is a function of its own for its contract: the
-/// contract of `append` says nothing of the real system.
+/// Writes all of the bytes. It is on its own for its contract, as `made` is.
 fn append_all<F: Write + Drop>(
     file: &mut SystemFile<F>,
     bytes: &[u8],

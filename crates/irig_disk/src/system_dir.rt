@@ -1,7 +1,4 @@
 //! An open folder of the system, and paths of names in it.
-//!
-//! A path is built in memory that is taken before the first call. If it is longer than that memory,
-//! and no more is there, the fault is a `SystemFault`, as that of a call.
 
 ghost use Rattle.std.specs.Prelude.{◌≡◌, ◌≤◌, ◌+◌, ◌↔◌, IfOk, IsOk, IsSome, OnOk, Some};
 ghost use Rattle.std.specs.{Path.path_buf_cap};
@@ -13,9 +10,8 @@ use std::path::PathBuf;
 use std::rt::Files;
 use std::{fs, io};
 
-/// How many bytes a path has room for. A path of the system has at most 4,095 bytes, and so has the
-/// text of a link: a path made of a folder, a slash and such a text has at most 4,095 + 1 + 4,095,
-/// which is 8,191.
+/// A path has at most 4,095 bytes, and so has the text of a link. So a folder, a slash and such a
+/// text have at most 8,191.
 pub(crate) const PATH: usize = 8192;
 
 /// A folder of the system, held open for its sync; or none yet.
@@ -26,7 +22,7 @@ pub struct SystemDir<F: Drop> {
 }
 
 impl<F: Drop> SystemDir<F> {
-    /// No folder yet, with room for the path of one. It fails only if memory runs out.
+    /// No folder yet, with room for the path of one.
     pub fn new(alloc: Global) -> Result<SystemDir<F>, AllocError>
         ensures { IfOk result (λ dir. 4_095 + 1 + 4_095 ≤ path_buf_cap dir.path) }
     {
@@ -36,10 +32,8 @@ impl<F: Drop> SystemDir<F> {
         })
     }
 
-    /// Opens the folder at a path, instead of the one that was open before. Its path is kept for
-    /// the calls on names in it. An error is that of the system, or that memory ran out for the
-    /// path. After an error the kept path can be another one than that of the folder that is still
-    /// open, so call `open` again, and nothing else before it succeeds.
+    /// Opens the folder at a path. After an error the kept path can be another one than that of the
+    /// folder that is still open, so call `open` again, and nothing else before it succeeds.
     pub fn open<R: Files<File = F>>(&mut self, runtime: &R, path: &str) -> Result<(), SystemFault>
         ensures { OnOk result (IsSome self.new.file) }
     {
@@ -47,8 +41,8 @@ impl<F: Drop> SystemDir<F> {
         self.hold(fs::open(runtime, path))
     }
 
-    /// Holds the folder that a call opened, instead of the one that was open before. It is a
-    /// function of its own for its contract: that of `open` cannot name what the call gives.
+    /// Holds the folder that a call opened. It is on its own for its contract, which can name
+    /// `opened`.
     fn hold(&mut self, opened: io::Result<F>) -> Result<(), SystemFault>
         ensures held { IfOk opened (λ folder. self.new.file ≡ Some folder) }
         ensures done { IsOk result ↔ IsOk opened }
@@ -63,9 +57,7 @@ impl<F: Drop> SystemDir<F> {
     }
 }
 
-/// Writes to `path` the path of a name in a folder, or that of the folder itself if the name is
-/// empty; what `path` has before is lost. It fails only if memory runs out, which is a fault of the
-/// system here.
+/// Writes the path of a name in a folder, or of the folder itself if the name is empty.
 pub(crate) fn put_path(path: &mut PathBuf, folder: &str, name: &str) -> Result<(), SystemFault> {
     path.clear();
     let Ok(()) = path.push(folder) else {

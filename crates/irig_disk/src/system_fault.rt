@@ -2,6 +2,5 @@
 
 use std::io;
 
-/// A call of the system failed.
 #[derive(Drop)]
 pub struct SystemFault(pub io::Error);
