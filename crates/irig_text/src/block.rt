@@ -9,13 +9,9 @@ use std::alloc::{AllocError, Global};
 /// How many bytes of a text are written at a time, at least, but for the last time: 64 KiB.
 pub const ENOUGH: usize = 65_536;
 
-/// How many bytes a block has room for beyond `ENOUGH`. The part that is added last may go past
-/// `ENOUGH`; no part has more bytes than this.
+/// The part that is added last may go past `ENOUGH`; no part has more bytes than this.
 const LAST: usize = 2048;
 
-/// A block with no bytes. It has room for `ENOUGH` bytes and `LAST` more, so parts that are added
-/// until it has `ENOUGH` bytes ask for no memory. An error says only that there is no memory for
-/// the block itself.
 pub fn new_block(alloc: Global) -> Result<Vec<u8>, AllocError>
     ensures empty { IfOk result (λ block. block.items ≡ []) }
     ensures room { IfOk result (λ block. ENOUGH + 2048 ≤ vec_capacity block) }
