@@ -1,9 +1,4 @@
-//! One block of memory as a row of places, each empty or holding an item; they count from 0. Every
-//! pointer of this crate is here; contracts say which places are full, and what is read has to be.
-//! A deed is the right to give a block back. In contracts, `slots` are the items in the places,
-//! `None` for an empty one, and `IsRun` says that a number of places from one on are full.
-//!
-//! Where `match` hands an error on, `?` would do the same; the proof of it takes longer.
+//! One block of memory as a row of places, each empty or full; every pointer of this crate is here.
 
 ghost use Rattle.std.specs.Prelude.{◌≡◌, ℕ, ◌+◌, ◌*◌, ◌^◌, ◌<◌, ◌≤◌, List, Option, Some, None};
 ghost use Rattle.std.specs.Prelude.{length, replicate, get_or, slice_set, IfOk, ◌-◌, ◌++◌, take};
@@ -31,8 +26,7 @@ impl<T> Model for Cells<T> {
     ghost also_shares = { λ c _ κ. cells_lent T.row c.start c.slots κ };
 }
 
-/// The right to give the block of `len` places at `at` back to `alloc`. It takes no space, and it
-/// cannot be dropped.
+/// The right to give the block back to `alloc`. It takes no space, and it cannot be dropped.
 pub(crate) struct Deed<T, A: Allocator> {
     mark: PhantomData<*const (T, A)>,
     ghost at: { Ptr },
@@ -44,7 +38,7 @@ impl<T, A: Allocator> Model for Deed<T, A> {
     ghost also_owns = { λ d. deed_owns T.row (A.dealloc_token d.alloc) d.at d.len };
 }
 
-/// A block of `len` empty places, and its deed. `AllocError` if memory runs out.
+/// A block of `len` empty places, and its deed.
 pub(crate) fn allocate<T, A: Allocator>(
     alloc: &A,
     len: usize,
@@ -64,8 +58,7 @@ pub(crate) fn allocate<T, A: Allocator>(
     }
 }
 
-/// Gives the block of `len` places back, whose deed this is. The items in it are forgotten: nothing
-/// is dropped.
+/// Gives the block back. The items in it are forgotten: nothing is dropped.
 pub(crate) fn deallocate<T, A: Allocator>(alloc: &A, len: usize, cells: Cells<T>, deed: Deed<T, A>)
     requires { (deed.at ≡ cells.start) × (deed.len ≡ len) × (length cells.slots ≡ len)
         × (deed.alloc ≡ alloc.now) }
@@ -77,10 +70,8 @@ pub(crate) fn deallocate<T, A: Allocator>(alloc: &A, len: usize, cells: Cells<T>
     }
 }
 
-/// Makes a block longer: from `old` places to `len`. It keeps the items in the first `full` places,
-/// and no other. The allocator can leave the block where it is. Returns its places and its deed. If
-/// memory runs out, the error has the places and the deed of the block of `old` places, with the
-/// items of the first `full` ones.
+/// Makes a block longer, with the items in the first `full` places and no other. If memory runs
+/// out, the error has the old block, with these items alone.
 pub(crate) fn enlarge<T, A: Allocator>(
     alloc: &A,
     full: usize,
@@ -106,8 +97,8 @@ pub(crate) fn enlarge<T, A: Allocator>(
     }
 }
 
-/// Places that take no memory: none, or of items of size zero. They have no block; `near` lends
-/// them an address, since a pointer has to have one, and no byte is read or written there.
+/// Places without a block. `near` lends them an address, since a pointer has to have one, and no
+/// byte is read or written there.
 pub(crate) fn nowhere<T>(near: &u8, len: usize) -> Cells<T>
     requires { len * type_size T.row ≡ 0 }
     ensures { result.slots ≡ replicate len None }
@@ -127,8 +118,7 @@ impl<T> Cells<T> {
         unsafe { &*self.start.add(index) }
     }
 
-    /// Writes an item to the place `index`, which has to be there, full or empty. What the place
-    /// held is forgotten, not dropped.
+    /// What the place held is forgotten, not dropped.
     pub(crate) fn write(&mut self, index: usize, item: T)
         requires { index < length self.old.slots }
         ensures slots { self.new.slots ≡ slice_set self.old.slots index (Some item) }
@@ -137,9 +127,7 @@ impl<T> Cells<T> {
         unsafe { self.start.add(index).write(item) }
     }
 
-    /// Moves the `count` items in the places from `from` on, which must be full, to the places from
-    /// `to` on. What was in the latter is forgotten, not dropped. The two runs must not overlap.
-    /// The `count` places from `from` on are empty afterwards.
+    /// Moves `count` items to places that do not overlap theirs. What was there is forgotten.
     pub(crate) fn move_run(&mut self, from: usize, to: usize, count: usize)
         requires inside { (from + count ≤ length self.old.slots)
             × (to + count ≤ length self.old.slots) }

@@ -1,13 +1,4 @@
 //! A list that is edited at one place.
-//!
-//! The places of the block left of `gap` hold the items left of the place, and those from `after`
-//! on hold the items right of it. The places between are free: what is in them does not count.
-//!
-//! *The place* of the list is where items come and go; *places* of the block hold one item each.
-//! `capacity` is how many of these the block has. The deed is the right to give the block back;
-//! there is none if the places take no memory. `Cells` are the places of the block, and `nowhere`
-//! gives places that take no memory. In contracts, `gap_view` is a buffer with some items, its
-//! place and its capacity.
 
 ghost use Rattle.std.specs.Prelude.{◌≡◌, ◌+◌, ◌-◌, ◌^◌, ◌<◌, ◌≤◌, ◌⊎◌, true, false, length, []};
 ghost use Rattle.std.specs.Prelude.{slice_get, slice_set, insert, remove, Some};
@@ -18,10 +9,9 @@ use crate::cells::{Cells, Deed, nowhere};
 use std::alloc::Global;
 use std::marker::Model;
 
-/// A list of items, counted from 0, with a place from 0 to its length and a capacity.
-///
-/// `put`, `take_left` and `take_right` work at the place and take no memory; only `reserve` and
-/// `grow` do, and they alone change the capacity.
+/// A list of items, counted from 0, with a place from 0 to its length and a capacity. The items
+/// left of the place are left of `gap` in the block, the others from `after` on. Only `reserve` and
+/// `grow` take memory.
 pub struct Gap<T: Copy> {
     pub(crate) cells: Cells<T>,
     pub(crate) deed: Option<Deed<T, Global>>,
@@ -49,7 +39,7 @@ impl<T: Copy> Model for Gap<T> {
 }
 
 impl<T: Copy> Gap<T> {
-    /// A buffer with no items and no capacity. It has no block yet, so it takes no memory.
+    /// A buffer with no items and no block: it takes no memory.
     pub fn new(alloc: Global) -> Self
         ensures { result ≡ gap_view [] 0 0 }
     {
@@ -71,8 +61,7 @@ impl<T: Copy> Gap<T> {
         self.gap + (self.capacity - self.after)
     }
 
-    /// Whether there is no room: a further item needs a growth of the block first. A new buffer has
-    /// no room.
+    /// Whether a further item needs a growth of the block first. A new buffer has no room.
     pub fn is_full(&self) -> bool
         ensures full { result ≡ true → length self.now.items ≡ self.now.capacity }
         ensures room { result ≡ false → length self.now.items < self.now.capacity }
@@ -80,7 +69,7 @@ impl<T: Copy> Gap<T> {
         self.gap == self.after
     }
 
-    /// How many items there may be in all without a growth of the block.
+    /// How many items there may be without a growth of the block.
     pub fn capacity(&self) -> usize
         ensures { result ≡ self.now.capacity }
     {
@@ -97,7 +86,7 @@ impl<T: Copy> Gap<T> {
         place
     }
 
-    /// The item at `index`, from 0, on either side of the place. There has to be one at `index`.
+    /// The item at `index`, from 0, on either side of the place.
     pub fn get(&self, index: usize) -> T
         requires { index < length self.now.items }
         ensures { slice_get self.now.items index ≡ Some result }
@@ -106,8 +95,7 @@ impl<T: Copy> Gap<T> {
         *self.cells.get(slot)
     }
 
-    /// The item at `index`, from 0, which has to be left of the place. So its place in the block is
-    /// `index`, and no test is needed to find it.
+    /// The item at `index`, from 0, left of the place: so no test is needed to find it.
     pub fn get_left(&self, index: usize) -> T
         requires { index < self.now.place }
         ensures { slice_get self.now.items index ≡ Some result }
@@ -115,7 +103,7 @@ impl<T: Copy> Gap<T> {
         *self.cells.get(index)
     }
 
-    /// Replaces the item at `index`, from 0, by `item`. There has to be one.
+    /// Replaces the item at `index`, from 0.
     pub fn set(&mut self, index: usize, item: T)
         requires { index < length self.old.items }
         ensures { self.new ≡
@@ -125,8 +113,7 @@ impl<T: Copy> Gap<T> {
         self.cells.write(slot, item);
     }
 
-    /// Inserts `item` at the place of the list; the place is right of the item then. There has to
-    /// be room, so this takes no memory.
+    /// Inserts an item; the place is right of it then. There is room, so this takes no memory.
     pub fn put(&mut self, item: T)
         requires { length self.old.items < self.old.capacity }
         ensures { self.new ≡
@@ -138,7 +125,7 @@ impl<T: Copy> Gap<T> {
         self.gap = free + 1;
     }
 
-    /// Removes the item left of the place and returns it; `None` if there is none.
+    /// Removes the item left of the place; `None` if there is none.
     pub fn take_left(&mut self) -> Option<T>
         ensures none { self.old.place ≡ 0 → (result ≡ None) × (self.new ≡ self.old) }
         ensures item { 0 < self.old.place → result ≡ slice_get self.old.items (self.old.place - 1) }
@@ -154,7 +141,7 @@ impl<T: Copy> Gap<T> {
         Some(*self.cells.get(last))
     }
 
-    /// Removes the item right of the place and returns it; `None` if there is none.
+    /// Removes the item right of the place; `None` if there is none.
     pub fn take_right(&mut self) -> Option<T>
         ensures none { self.old.place ≡ length self.old.items →
             (result ≡ None) × (self.new ≡ self.old) }
@@ -172,10 +159,8 @@ impl<T: Copy> Gap<T> {
         Some(*self.cells.get(first))
     }
 
-    /// The same items with the capacity `wanted`, or with the old one if memory runs out. The list
-    /// must have no item right of the place: so all items are at the front of the block, and the
-    /// allocator can make it longer where it is. The buffer is taken and returned, since the block
-    /// and its deed have to be taken out of it.
+    /// The same items with the capacity `wanted`, or the old one if memory runs out. All are left
+    /// of the place, so the allocator can make the block longer where it is.
     pub(crate) fn lengthened(self, wanted: usize) -> Gap<T>
         requires longer { self.capacity < wanted }
         requires end { self.place ≡ length self.items }
@@ -202,7 +187,7 @@ impl<T: Copy> Gap<T> {
 }
 
 impl<T: Copy> Drop for Gap<T> {
-    // Gives the block back, if there is one. The items are copies, so nothing else is dropped.
+    // The items are copies, so nothing else is dropped.
     fn drop(self) {
         let Gap {
             cells,
@@ -216,8 +201,7 @@ impl<T: Copy> Drop for Gap<T> {
     }
 }
 
-/// The place in the block of the item at `index` of the list, both from 0. `gap` items are left of
-/// the place of the list, and the others begin at `after` in the block.
+/// The place in the block of the item at `index` of the list, both from 0.
 fn slot_of(index: usize, gap: usize, after: usize) -> usize
     requires { gap ≤ index → after + (index - gap) < 2 ^ 64 }
     ensures left { index < gap → result ≡ index }

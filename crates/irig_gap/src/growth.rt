@@ -1,11 +1,4 @@
 //! The capacity of a gap buffer grows: where its block is, or in another one.
-//!
-//! *The place* of a gap buffer is where items come and go; *places* of its block hold one item
-//! each, and the capacity is how many of these there are. Those left of `gap` hold the items left
-//! of the place, those from `after` on the others. An error is that memory ran out; then nothing
-//! has changed. In contracts, `gap_view` is a buffer with some items, its place and its capacity.
-//!
-//! Where `let .. else` hands an error on, `?` would do the same; the proof of it takes longer.
 
 ghost use Rattle.std.specs.Prelude.{◌≡◌, ◌+◌, ◌-◌, ◌/◌, ◌^◌, ◌<◌, ◌≤◌, length, max, min, OnOk};
 ghost use Rattle.std.specs.Prelude.{OnErr, map, Some};
@@ -18,11 +11,9 @@ use std::alloc::AllocError;
 use std::mem;
 
 impl<T: Copy> Gap<T> {
-    /// Makes room for `more` further items; nothing is done if there is room already.
-    ///
-    /// Else the capacity grows by half at least (to 2^64 - 1 at most), so that many small growths
-    /// take time in proportion to the items. If there is no memory for that it is an error, even if
-    /// there is some for `more`. A count of items above 2^64 - 1 is the same error.
+    /// Makes room for `more` further items. The capacity grows by half at least, so that many small
+    /// growths take time in proportion to the items. Without memory for that it is an error, even
+    /// if there is some for `more`.
     pub fn reserve(&mut self, more: usize) -> Result<(), AllocError>
         ensures stays { (self.new.items ≡ self.old.items) × (self.new.place ≡ self.old.place) }
         ensures room { OnOk result (length self.old.items + more ≤ self.new.capacity) }
@@ -48,11 +39,8 @@ impl<T: Copy> Gap<T> {
         }
     }
 
-    /// Makes the capacity `wanted`, and no more; it must be above the capacity so far. If an item
-    /// is right of the place, another block is needed (`relocate`). If none is, the allocator can
-    /// make the block longer where it is (`lengthened`): that takes the buffer, so an empty one is
-    /// in its place meanwhile. `lengthened` keeps the old capacity if memory runs out, so the
-    /// capacity shows whether it grew.
+    /// If an item is right of the place, another block is needed. If none is, `lengthened` takes
+    /// the buffer, so an empty one is there meanwhile, and the capacity shows whether it grew.
     pub fn grow(&mut self, wanted: usize) -> Result<(), AllocError>
         requires { self.old.capacity < wanted }
         ensures ok { OnOk result (self.new ≡ gap_view self.old.items self.old.place wanted) }
@@ -71,8 +59,7 @@ impl<T: Copy> Gap<T> {
         }
     }
 
-    /// Makes the capacity `wanted`, in another block, and gives the old block back. `grow` calls
-    /// this if items are right of the place: they have to go to the end of the new block.
+    /// Makes the capacity `wanted` in another block, to whose end the items right of the place go.
     fn relocate(&mut self, wanted: usize) -> Result<(), AllocError>
         requires { self.old.capacity < wanted }
         ensures ok { OnOk result (self.new ≡ gap_view self.old.items self.old.place wanted) }
@@ -91,8 +78,7 @@ impl<T: Copy> Gap<T> {
         Ok(())
     }
 
-    /// Copies the items left of the place to the front of `len` places, and the items right of it
-    /// to their end. Returns the first place, from 0, of the latter.
+    /// Copies the items to both ends of `len` places. Returns the first place of those at the end.
     fn copy_to(&self, cells: &mut Cells<T>, len: usize) -> usize
         requires len { length cells.old.slots ≡ len }
         requires longer { self.now.capacity ≤ len }

@@ -1,9 +1,4 @@
 //! The place of a gap buffer moves, by one item or in runs that are no longer than the gap.
-//!
-//! *The place* of the list is where items come and go; *places* of its block hold one item each.
-//! Those left of `gap` hold the items left of the place, those from `after` on the others; between
-//! them is the gap. To move the place, items are copied over the gap. In contracts, `gap_view` is a
-//! buffer with some items, its place and its capacity.
 
 ghost use Rattle.std.specs.Prelude.{◌≡◌, ◌+◌, ◌-◌, ◌<◌, ◌≤◌, length};
 ghost use Rattle.irig_gap.specs.Items.{gap_view};
@@ -11,8 +6,7 @@ ghost use Rattle.irig_gap.specs.Items.{gap_view};
 use crate::gap::Gap;
 
 impl<T: Copy> Gap<T> {
-    /// Moves the place over the item left of it, which is copied over the gap to the right side.
-    /// There has to be one.
+    /// Moves the place over the item left of it, which is copied over the gap.
     pub fn step_left(&mut self)
         requires { 0 < self.old.place }
         ensures { self.new ≡ gap_view self.old.items (self.old.place - 1) self.old.capacity }
@@ -23,8 +17,7 @@ impl<T: Copy> Gap<T> {
         self.cells.write(self.after, item);
     }
 
-    /// Moves the place over the item right of it, which is copied over the gap to the left side.
-    /// There has to be one.
+    /// Moves the place over the item right of it.
     pub fn step_right(&mut self)
         requires { self.old.place < length self.old.items }
         ensures { self.new ≡ gap_view self.old.items (self.old.place + 1) self.old.capacity }
@@ -35,8 +28,7 @@ impl<T: Copy> Gap<T> {
         self.after += 1;
     }
 
-    /// Moves the place so that `place` items are left of it; there must be at least `place` items.
-    /// Each leap moves as many items as the gap is wide, or fewer at the end.
+    /// Moves the place so that `place` items are left of it. Each leap is as wide as the gap.
     pub fn move_to(&mut self, place: usize)
         requires { place ≤ length self.old.items }
         ensures { self.new ≡ gap_view self.old.items place self.old.capacity }
@@ -49,10 +41,8 @@ impl<T: Copy> Gap<T> {
         }
     }
 
-    /// Moves the place to the left, towards `place`: over as many items as the gap is wide, or
-    /// fewer if `place` is nearer. So the items are copied to places that do not overlap their own.
-    /// If the gap is empty, no item is copied, and `place` is reached at once. More than `place`
-    /// items must be left of the place.
+    /// Moves the place towards `place`, over at most as many items as the gap is wide: so the
+    /// copies do not overlap the items. If the gap is empty, `place` is reached at once.
     fn leap_left(&mut self, place: usize)
         requires { place < self.old.place }
         ensures view { self.new ≡ gap_view self.old.items self.new.place self.old.capacity }
@@ -60,7 +50,7 @@ impl<T: Copy> Gap<T> {
     {
         let free = self.after - self.gap;
         if free == 0 {
-            // The gap is empty: the two sides meet, so no item has to move.
+            // The two sides meet, so no item has to move.
             self.gap = place;
             self.after = place;
             return;
@@ -71,10 +61,7 @@ impl<T: Copy> Gap<T> {
         self.cells.move_run(self.gap, self.after, count);
     }
 
-    /// Moves the place to the right, towards `place`: over as many items as the gap is wide, or
-    /// fewer if `place` is nearer. So the items are copied to places that do not overlap their own.
-    /// If the gap is empty, no item is copied, and `place` is reached at once. Fewer than `place`
-    /// items must be left of the place, and at least `place` in all.
+    /// The same to the right.
     fn leap_right(&mut self, place: usize)
         requires { (self.old.place < place) × (place ≤ length self.old.items) }
         ensures view { self.new ≡ gap_view self.old.items self.new.place self.old.capacity }
@@ -82,7 +69,6 @@ impl<T: Copy> Gap<T> {
     {
         let free = self.after - self.gap;
         if free == 0 {
-            // The gap is empty: the two sides meet, so no item has to move.
             self.gap = place;
             self.after = place;
             return;
