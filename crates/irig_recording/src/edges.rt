@@ -1,12 +1,4 @@
 //! Edges of a wire that are read one after another, and kept as pulses.
-//!
-//! Two edges are a pulse: a rise and a fall. If the last edge is a rise, it waits in `rise`, and
-//! `is_open` is true. A recording may have at most `most` pulses: 2^22, or 2^26 if it is long. They
-//! have 2 * `most` edges. One edge more may be kept (`edges_kept most` is 2 * `most` + 1), to know
-//! that there are too many. Times are in microseconds.
-//!
-//! The pulses are in a gap buffer: a list whose free room, the gap, can be anywhere in it. Here it
-//! is always after all pulses, so `gap_at` is how many there are.
 
 ghost use Rattle.std.specs.Prelude.{◌≡◌, ◌≤◌, ◌<◌, ◌+◌, ◌^◌, ◌↔◌, ◌∷◌, [], ◌++◌, true, false, not};
 ghost use Rattle.std.specs.Prelude.{◌*◌, length, IsTrue, OnErr, OnOk};
@@ -22,8 +14,8 @@ use std::marker::Model;
 /// How many pulses a first block has room for: 16 KiB.
 const FIRST_ROOM: usize = 1024;
 
-/// The times at which a level rises and falls in turn, in microseconds. At most one more is kept
-/// than a long recording may have.
+/// The times at which a level rises and falls in turn, in microseconds; a last rise waits for its
+/// fall. At most one more is kept than a long recording may have.
 #[derive(Drop)]
 pub struct Edges {
     pulses: Gap<Pulse>,
@@ -45,7 +37,6 @@ impl Model for Edges {
 }
 
 impl Edges {
-    /// No edges.
     pub fn new(alloc: Global) -> Edges
         ensures { result ≡ [] }
     {
@@ -63,8 +54,7 @@ impl Edges {
         self.is_open
     }
 
-    /// Whether there are more edges than a recording of at most `most` pulses may have, which is
-    /// two for each pulse.
+    /// Whether there are more edges than `most` pulses have.
     pub fn is_full(&self, most: usize) -> bool
         ensures { IsTrue result ↔ (2 * most < length self.now) }
     {
@@ -75,8 +65,7 @@ impl Edges {
         }
     }
 
-    /// Whether two edges more may be added: with them there are at most 2 * `most` + 1 edges, which
-    /// is one more than `most` pulses have. It is false as soon as `most` pulses are whole.
+    /// Whether two edges more may be added. It is false as soon as `most` pulses are whole.
     #[inline(always)]
     pub fn has_room(&self, most: usize) -> bool
         ensures { result ≡ true ↔ (length self.now + 2 ≤ edges_kept most) }
@@ -84,10 +73,8 @@ impl Edges {
         self.pulses.gap_at() < most
     }
 
-    /// Adds an edge: a fall if the last one is a rise, else a rise. Its time should be later than
-    /// those of the others, which is not tested. There may be at most 2^27 edges before, as many as
-    /// 2^26 pulses have. Only a fall takes memory, for the pulse that it ends. It fails only if
-    /// memory runs out.
+    /// Adds an edge, which should be later than the others; that is not tested. Only a fall takes
+    /// memory, for the pulse that it ends.
     pub fn push(&mut self, edge: u64) -> Result<(), AllocError>
         requires { length self.old ≤ 2 ^ 27 }
         ensures { OnOk result (self.new ≡ self.old ++ edge ∷ []) }
@@ -103,9 +90,7 @@ impl Edges {
         Ok(())
     }
 
-    /// Adds a fall and the next rise. The last edge has to be a rise, which this fall ends; the new
-    /// rise waits then. Both times should be later than those of the others, which is not tested.
-    /// It does in one step what two calls of `push` do. It fails only if memory runs out.
+    /// Adds a fall and the next rise, in one step instead of two calls of `push`.
     #[inline(always)]
     pub fn close_and_open(&mut self, fall: u64, rise: u64) -> Result<(), AllocError>
         requires risen { is_even_long self.old ≡ false }
@@ -118,9 +103,8 @@ impl Edges {
         Ok(())
     }
 
-    /// The pulses of the edges, in the same block of memory: none is copied. The last edge, if any,
-    /// has to be a fall. The gap of the buffer is after all pulses. The block has room for at most
-    /// twice their number and 1024.
+    /// The pulses of the edges, in the same block of memory. The last edge, if any, has to be a
+    /// fall.
     pub fn into_pulses(self) -> Gap<Pulse>
         requires { is_even_long self ≡ true }
         ensures edges { edges_of result.items ≡ self }
@@ -131,8 +115,6 @@ impl Edges {
     }
 }
 
-/// Adds a pulse after the others; the gap stays after all. It fails only if memory runs out, and
-/// nothing changes then.
 #[inline(always)]
 fn put(pulses: &mut Gap<Pulse>, pulse: Pulse) -> Result<(), AllocError>
     requires few { length pulses.old.items ≤ 2 ^ 26 }
@@ -150,8 +132,7 @@ fn put(pulses: &mut Gap<Pulse>, pulse: Pulse) -> Result<(), AllocError>
     Ok(())
 }
 
-/// Makes the capacity of a full buffer larger: twice the old one and 1024 pulses (`FIRST_ROOM`), so
-/// that it grows seldom; but at most `next_limit`. If memory runs out, nothing changes.
+/// Makes the capacity of a full buffer twice the old one and 1024 pulses, so that it grows seldom.
 #[inline(never)]
 fn grow(pulses: &mut Gap<Pulse>) -> Result<(), AllocError>
     requires few { length pulses.old.items ≤ 2 ^ 26 }
@@ -166,10 +147,8 @@ fn grow(pulses: &mut Gap<Pulse>) -> Result<(), AllocError>
     pulses.grow(twice.min(next_limit(old)))
 }
 
-/// The largest capacity, in pulses, to which a full buffer of this capacity may grow. For one of at
-/// most 2^22, the most pulses of a recording, it is 2^22 + 1024, which is all that it needs. For
-/// a larger one, that of a long recording, it is 2^26 + 1024. The 1024 more (`FIRST_ROOM`) make it
-/// larger than the capacity also at these limits.
+/// The largest capacity, in pulses, to which a full buffer may grow: all that a recording needs, or
+/// a long one. The 1024 more make it larger than the capacity also at these limits.
 fn next_limit(capacity: usize) -> usize
     requires few { capacity ≤ 2 ^ 26 }
     ensures more { capacity < result }

@@ -1,13 +1,4 @@
-//! The lines of a pulse, kept for the next one.
-//!
-//! The four lines are `#RISE`, `1!`, `#FALL` and `0!`. Most pulses come soon after the one before,
-//! so their times have the same digits but for the last four. The last four are written over the
-//! old ones, and all else is kept: that is faster than to make each line from its number. The kept
-//! digits are those before the last four; they are the same for the rise and the fall.
-//!
-//! The lines of an edge end with four bytes, a newline, the level, the code and a newline; the last
-//! four digits of its time come just before these. In contracts, `HoldsPulse` says that the four
-//! lines are there with the kept digits, and `IsNear` that a time has the kept digits.
+//! The lines of a pulse, kept for the next one, of which mostly the last four digits are others.
 
 ghost use Rattle.std.specs.Prelude.{◌≡◌, ◌↔◌, ◌≤◌, ◌<◌, ◌+◌, ◌-◌, ◌/◌, ◌%◌, ◌^◌, ◌++◌, ◌∷◌, true};
 ghost use Rattle.std.specs.Prelude.{false, OnOk, length, take, drop, vec_capacity, vec_len, IsOk};
@@ -25,9 +16,9 @@ static PAIRS: [u8; 200] = *b"\
     6061626364656667686970717273747576777879\
     8081828384858687888990919293949596979899";
 
-/// The four lines of a pulse at the front of `bytes`; the two lines of each edge have `long` bytes,
-/// at most 20. The bytes after them have no meaning: they are there so that a fixed number of bytes
-/// can be copied. `base` is a time in microseconds: the kept digits, and then 0000.
+/// The lines `#RISE`, `1!`, `#FALL` and `0!` at the front of `bytes`; the two of each edge have
+/// `long` bytes, at most 20. The kept digits are those before the last four of a time, the same of
+/// both edges; `base` is these and 0000, in microseconds.
 #[derive(Drop)]
 pub struct KeptPulse {
     bytes: [u8; 56],
@@ -36,8 +27,8 @@ pub struct KeptPulse {
 }
 
 impl KeptPulse {
-    /// The lines of a pulse whose edges are both at 10,000 microseconds, the least time of five
-    /// digits. It is no pulse of a recording: its lines are written over.
+    /// Both edges are at 10,000 microseconds, the least time of five digits: lines to be written
+    /// over.
     pub fn new() -> KeptPulse
         ensures { HoldsPulse result }
     {
@@ -49,10 +40,8 @@ impl KeptPulse {
         }
     }
 
-    /// Tries to make the kept digits fit a pulse, whose times are in microseconds. If they are one
-    /// too low for the rise, the last of them counts up by one, unless it is 9. Returns whether
-    /// both times have the kept digits then. `false` can leave the digit counted up, if the rise
-    /// fits and the fall does not.
+    /// Counts the kept digits up if they are one too low for a pulse, unless they end with 9.
+    /// `false` can leave them counted up, if the rise fits and the fall does not.
     #[inline(always)]
     pub fn catch_up(&mut self, rise: u64, fall: u64) -> bool
         requires holds { HoldsPulse self.old }
@@ -62,11 +51,8 @@ impl KeptPulse {
         self.catch_up_to(rise) && self.is_near(fall)
     }
 
-    /// Makes new lines, with both edges at `time`, in microseconds; `put` then writes the last four
-    /// digits of each. The time has 5 to 15 digits: one digit is needed before the last four, and
-    /// more than 15 do not fit. The lines are made in `line`: the time ends before byte 21, from 0,
-    /// and the bytes 21 to 24 are a newline, the level, the code and a newline. So the lines of an
-    /// edge are the bytes from `start`, that of the `#`, to byte 24.
+    /// Makes new lines, with both edges at `time`, in microseconds, which has 5 to 15 digits. In
+    /// `line` they are the bytes from that of the `#` to byte 24, from 0.
     pub fn renew(&mut self, line: &mut [u8], time: u64)
         requires some { 10000 ≤ time }
         requires few { time < 10 ^ 15 }
@@ -85,10 +71,8 @@ impl KeptPulse {
         self.base = time - time % 10000;
     }
 
-    /// Adds the lines of a pulse to the text. Both times, in microseconds, have the kept digits
-    /// (`catch_up` or `renew` made sure). The last four digits of each begin 8 bytes before the end
-    /// of its lines. Always 48 bytes are added, which is fast, and those after the lines are
-    /// removed. It fails only if memory runs out.
+    /// Adds the lines of a pulse to the text. Always 48 bytes are added, which is fast, and those
+    /// after the lines are removed.
     #[inline(always)]
     pub fn put(&mut self, text: &mut Vec<u8>, rise: u64, fall: u64) -> Result<(), AllocError>
         requires holds { HoldsPulse self.old }
@@ -110,7 +94,7 @@ impl KeptPulse {
         Ok(())
     }
 
-    /// Whether a time, in microseconds, has the kept digits before its last four.
+    /// Whether a time has the kept digits before its last four.
     #[inline(always)]
     fn is_near(&self, time: u64) -> bool
         ensures { result ≡ true ↔ IsNear self.now time }
@@ -118,9 +102,7 @@ impl KeptPulse {
         self.base <= time && time - self.base < 10000
     }
 
-    /// Counts up the kept digits by one, if they are one too low for a time, in microseconds, and
-    /// do not end with 9. Returns whether the time has the kept digits then; it is `true` without a
-    /// change if it had them before. `false` changes nothing.
+    /// Counts the kept digits up if they are one too low for a time; `false` changes nothing.
     #[inline(always)]
     fn catch_up_to(&mut self, time: u64) -> bool
         requires holds { HoldsPulse self.old }
@@ -137,9 +119,7 @@ impl KeptPulse {
         past < 20000 && self.count_up()
     }
 
-    /// Counts up the kept digits by one, in the lines of both edges, unless the last of them is 9:
-    /// then more digits would change. The last kept digit is 9 bytes before the end of the lines of
-    /// an edge. Returns whether it counted up; `false` changes nothing.
+    /// Counts the kept digits up in the lines of both edges, if only the last of them changes.
     #[inline(always)]
     fn count_up(&mut self) -> bool
         requires holds { HoldsPulse self.old }
@@ -161,9 +141,7 @@ impl KeptPulse {
     }
 }
 
-/// Copies 24 bytes of `line`, from byte `start` on, to the place `at` of `bytes`; both count from
-/// 0. There is room for them. The lines of an edge have at most 20 bytes, but a fixed number of
-/// bytes is copied fast; what comes after the lines has no meaning.
+/// Copies a fixed number of bytes, which is fast. What comes after the lines has no meaning.
 fn put_part(bytes: &mut [u8], at: usize, line: &[u8], start: usize)
     requires room { at + 24 ≤ length bytes.old }
     requires some { start + 24 ≤ length line.now }
@@ -173,8 +151,7 @@ fn put_part(bytes: &mut [u8], at: usize, line: &[u8], start: usize)
     bytes[at..at + 24].copy_from_slice(&line[start..start + 24]);
 }
 
-/// Writes the four digits of a number below 10,000, with leading zeros, at the place `at` of a
-/// buffer, from 0.
+/// Writes the four digits of a number, with leading zeros, at the place `at`, from 0.
 #[inline(always)]
 fn put_four(bytes: &mut [u8], at: usize, number: u64)
     requires few { number < 10000 }
@@ -186,8 +163,6 @@ fn put_four(bytes: &mut [u8], at: usize, number: u64)
     put_two(bytes, at + 2, number % 100);
 }
 
-/// Writes the two digits of a number below 100, with a leading zero, at the place `at` of a buffer,
-/// from 0.
 #[inline(always)]
 fn put_two(bytes: &mut [u8], at: usize, number: u64)
     requires few { number < 100 }
@@ -201,7 +176,6 @@ fn put_two(bytes: &mut [u8], at: usize, number: u64)
     bytes[at + 1] = ones;
 }
 
-/// The two digits of a number below 100, as bytes of a text: tens and ones.
 #[inline(always)]
 fn pair(number: usize) -> (u8, u8)
     requires { number < 100 }

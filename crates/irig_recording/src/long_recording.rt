@@ -1,6 +1,4 @@
-//! A length and the pulses of a level that are only read, so that there may be many. An edge is a
-//! time at which the level changes, the rise or the fall of a pulse. The pulses are in a gap
-//! buffer, a list with a place where items come and go. Here the place is always after all pulses.
+//! A length and the pulses of a level that are only read, so that there may be many.
 
 ghost use Rattle.std.specs.Prelude.{◌≡◌, ◌≤◌, ◌^◌, ◌*◌, ◌+◌, length};
 ghost use Rattle.irig_recording.specs.Pulses.{edges_of};
@@ -14,9 +12,7 @@ use std::marker::Model;
 /// The most pulses of a long recording, 2^26, in 1 GiB: this project's own limit.
 pub const LONG_PULSES_LIMIT: usize = 1 << 26;
 
-/// What is kept of one wire, as by a `Recording`, with at most 2^26 pulses instead of 2^22: a
-/// length, and the pulses, whose edges are the times at which the level changes, all in
-/// microseconds.
+/// What is kept of one wire, as by a `Recording`, with at most 2^26 pulses instead of 2^22.
 #[derive(Drop)]
 pub struct LongRecording {
     micros: u64,
@@ -39,10 +35,8 @@ impl Model for LongRecording {
 }
 
 impl LongRecording {
-    /// The recording of a length and pulses, both in microseconds. The caller knows that they make
-    /// one: no limit is tested here. The buffer's place must be after all pulses, and its block of
-    /// memory must have room for at most 2 * n + 1024 pulses if there are n, as `Edges` makes it:
-    /// so the number of its pulses bounds the memory of a recording.
+    /// The caller knows that these make a recording: no limit is tested here. The bound of the
+    /// block (`room`) is that of `Edges`: so the number of pulses bounds the memory.
     pub fn from_parts(micros: u64, pulses: Gap<Pulse>) -> LongRecording
         requires lawful { IsLongRecording micros (edges_of pulses.items) }
         requires place { pulses.place ≡ length pulses.items }
@@ -60,8 +54,7 @@ impl LongRecording {
         self.micros
     }
 
-    /// The pulses, in order. The buffer's place is after all of them, so `gap_at` is their number,
-    /// and `get_left` gives each by its index, from 0.
+    /// The pulses, in order. `gap_at` is their number.
     pub fn pulses(&self) -> &Gap<Pulse>
         ensures exact { edges_of result.now.items ≡ self.now.edges }
         ensures place { result.now.place ≡ length result.now.items }
@@ -70,8 +63,7 @@ impl LongRecording {
         &self.pulses
     }
 
-    /// The same recording as a `Recording`, without a copy of the pulses. The caller knows that it
-    /// has at most 2^22 pulses, which are 2^23 edges.
+    /// The same recording as a `Recording`, without a copy of the pulses.
     pub fn into_recording(self) -> Recording
         requires few { length self.edges ≤ 2 ^ 23 }
         ensures { result ≡ self }

@@ -1,12 +1,4 @@
-//! Writes a recording as the text of a dump, in the form of `docs/FORMATS.md`, under "The dump that
-//! is written".
-//!
-//! Each function that has a `text` adds to its end, and fails only if memory runs out; a part may
-//! be added then. A line of a time is `#` and its microseconds; a line of a level is `1!` (high) or
-//! `0!` (low). An edge has both lines.
-//!
-//! The clauses `enough` say for how many bytes `text` needs room before, so that memory cannot run
-//! out. `EndsLines` says that the buffer `line` has what `TextWriter` says of its bytes 21 to 24.
+//! Writes a recording as the text of a dump, in the form of `docs/FORMATS.md`.
 
 ghost use Rattle.std.specs.Prelude.{◌≡◌, ◌≤◌, ◌<◌, ◌^◌, ◌+◌, ◌/◌, true, false, ◌++◌, ◌∷◌, OnOk};
 ghost use Rattle.std.specs.Prelude.{IfOk, length, drop, decimal, vec_capacity, vec_len, IsOk};
@@ -23,10 +15,9 @@ use itoa::write_digits;
 use std::alloc::{AllocError, Global};
 use std::marker::Model;
 
-/// Writes the text of a dump, edge by edge, after the bytes of a text that the caller has. `last`
-/// is the time of the last edge, in microseconds, or 0 before the first. Lines are made in `line`,
-/// or in `pulse`, which keeps those of an earlier pulse. In `line` a time ends before byte 21, from
-/// 0, and a newline, the level, the code (`!`) and a newline are the bytes 21 to 24.
+/// `last` is the time of the last edge, in microseconds, or 0 before the first. In `line` a time
+/// ends before byte 21, from 0, and a newline, the level, the code (`!`) and a newline are the next
+/// four.
 #[derive(Drop)]
 pub struct TextWriter {
     line: [u8; 48],
@@ -46,7 +37,6 @@ impl Model for TextWriter {
 }
 
 impl TextWriter {
-    /// A writer that has written nothing. It takes no memory.
     pub fn new() -> TextWriter
         ensures { result.last ≡ 0 }
     {
@@ -58,8 +48,7 @@ impl TextWriter {
         }
     }
 
-    /// Begins a text: writes the lines before the first edge above 0, 125 bytes. `high` says
-    /// whether an edge, a rise, is at 0.
+    /// Writes the lines before the first edge above 0. `high` says that a rise is at 0.
     pub fn begin(&mut self, text: &mut Vec<u8>, high: bool) -> Result<(), AllocError>
         ensures text { OnOk result (text.new.items ≡ text.old.items ++ header_text high) }
         ensures last { self.new.last ≡ 0 }
@@ -70,9 +59,8 @@ impl TextWriter {
         put_header(text, high)
     }
 
-    /// Writes the lines of an edge at a time in microseconds, from which on the level is high
-    /// (`high`) or low. An edge at 0 is part of the header, so nothing is written for it. Up to
-    /// 2^40 the lines have at most 18 bytes, but `put_lines` needs room for 25.
+    /// Writes the lines of an edge, in microseconds; one at 0 is part of the header. They have at
+    /// most 18 bytes, but `put_lines` needs room for 25.
     #[inline(always)]
     pub fn put_edge(&mut self, text: &mut Vec<u8>, edge: u64, high: bool) -> Result<(), AllocError>
         ensures text { OnOk result (text.new.items ≡ text.old.items ++ lines_at high edge) }
@@ -88,12 +76,9 @@ impl TextWriter {
         put_lines(text, &mut self.line, edge, high)
     }
 
-    /// Writes the lines of a pulse: the level is high from its rise on and low from its fall on, in
-    /// microseconds. As by `put_edge`, a rise at 0 has no lines. There are three ways, the fastest
-    /// first. If the times have the same digits before their last four as the kept pulse, or have
-    /// them after the last of these digits counts up, only the last four are written (`catch_up`).
-    /// If not, but both times share these digits, new lines are made and kept (`renew`). Else the
-    /// edges are written one by one.
+    /// Writes the lines of a pulse, in microseconds. There are three ways, the fastest first: the
+    /// last four digits of the kept pulse (`catch_up`), a new one to be kept (`renew`), edge by
+    /// edge.
     #[inline(always)]
     pub fn put_pulse(&mut self, text: &mut Vec<u8>, rise: u64, fall: u64) -> Result<(), AllocError>
         ensures text { OnOk result
@@ -115,8 +100,8 @@ impl TextWriter {
         self.pulse.put(text, rise, fall)
     }
 
-    /// Ends a text: writes the line of the length, in microseconds, unless the last edge is at the
-    /// length, or there was no edge and the length is 0.
+    /// Ends a text: writes the line of the length, in microseconds, unless the last time is the
+    /// length.
     pub fn finish(&self, text: &mut Vec<u8>, length: u64) -> Result<(), AllocError>
         ensures text { OnOk result
             (text.new.items ≡ text.old.items ++ length_line self.now.last length) }
@@ -131,11 +116,8 @@ impl TextWriter {
     }
 }
 
-/// The canonical dump of a recording, as `docs/FORMATS.md` says: nine lines, two for each edge
-/// above 0, and one for the length, unless that is 0 or an edge. `read` of `irig_vcd` gives the
-/// recording back. It asks once for the memory of the longest text. A time is at most 2^40, so it
-/// has at most 13 digits, and its line 15 bytes. An edge then has 18 bytes, and a pulse 36; the
-/// header has 125 and the length 15, together 140.
+/// The canonical dump of a recording. It asks once for the memory of the longest text: a time has
+/// at most 13 digits, so an edge 18 bytes, a pulse 36, the header 125 and the length 15.
 pub fn text(alloc: Global, recording: &Recording) -> Result<Vec<u8>, AllocError>
     ensures written { IfOk result (λ text. text.items ≡ file_text recording.now) }
     ensures short { IfOk result (λ text. length text.items ≤ 2 ^ 28) }
@@ -145,8 +127,6 @@ pub fn text(alloc: Global, recording: &Recording) -> Result<Vec<u8>, AllocError>
     Ok(text)
 }
 
-/// Adds the text of a recording to `text`: the header, its pulses, and the length. `gap_at` is the
-/// number of pulses.
 fn put_text(text: &mut Vec<u8>, recording: &Recording) -> Result<(), AllocError>
     ensures { OnOk result (text.new.items ≡ text.old.items ++ file_text recording.now) }
 {
@@ -160,8 +140,7 @@ fn put_text(text: &mut Vec<u8>, recording: &Recording) -> Result<(), AllocError>
     writer.finish(text, recording.length())
 }
 
-/// Whether two times, in microseconds, have 5 to 15 digits and the same digits before the last
-/// four: then a `KeptPulse` can hold their lines.
+/// Whether two times have 5 to 15 digits, and the same ones before the last four.
 fn share_front(rise: u64, fall: u64) -> bool
     ensures same { result ≡ true → rise / 10000 ≡ fall / 10000 }
     ensures some { result ≡ true → 10000 ≤ rise }
@@ -177,8 +156,6 @@ fn begins_high(pulses: &Gap<Pulse>) -> bool
     0 < pulses.len() && pulses.get(0).rise == 0
 }
 
-/// Writes the lines before the first edge above 0, 125 bytes. `high` says whether the level is high
-/// at 0.
 #[tactic(auto, unfolding(crate::specs::FileText::head_text))]
 fn put_header(text: &mut Vec<u8>, high: bool) -> Result<(), AllocError>
     ensures text { OnOk result (text.new.items ≡ text.old.items ++ header_text high) }
@@ -195,10 +172,8 @@ fn put_header(text: &mut Vec<u8>, high: bool) -> Result<(), AllocError>
     Ok(())
 }
 
-/// Writes the two lines of an edge, in microseconds, by the buffer `line`: the time ends before
-/// byte 21, from 0, and the bytes 21 to 24 are a newline, the level (`high` is 1), the code and a
-/// newline. A fixed number of bytes, 25, is added to the text, which is fast, and those after the
-/// lines are removed.
+/// Writes the two lines of an edge by the buffer `line`. A fixed number of bytes, 25, is added,
+/// which is fast, and those that are too many are removed.
 #[inline(always)]
 fn put_lines(text: &mut Vec<u8>, line: &mut [u8], edge: u64, high: bool) -> Result<(), AllocError>
     requires room { 48 ≤ length line.old }
@@ -217,9 +192,7 @@ fn put_lines(text: &mut Vec<u8>, line: &mut [u8], edge: u64, high: bool) -> Resu
     Ok(())
 }
 
-/// Writes `#` and the digits of a time, in microseconds, into a buffer, so that they end before
-/// byte 21, from 0. Returns the byte, from 0, at which the `#` is; `write_digits` returns that of
-/// the first digit.
+/// Writes `#` and digits, which end before byte 21. Returns the byte of the `#`, from 0.
 pub(crate) fn put_digits(line: &mut [u8], time: u64) -> usize
     requires room { 21 ≤ length line.old }
     ensures within { result ≤ length line.new }
@@ -231,8 +204,7 @@ pub(crate) fn put_digits(line: &mut [u8], time: u64) -> usize
     start
 }
 
-/// Writes the line of a time, in microseconds, without a line of a level after it. In the buffer
-/// the digits end before byte 21, from 0, which is the newline.
+/// Writes the line of a time, in microseconds, without a line of a level after it.
 fn put_time(text: &mut Vec<u8>, time: u64) -> Result<(), AllocError>
     ensures text { OnOk result (text.new.items ≡ text.old.items ++ time_line time) }
     ensures enough { time ≤ 2 ^ 40 → vec_len text.old + 15 ≤ vec_capacity text.old → IsOk result }
