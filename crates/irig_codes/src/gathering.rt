@@ -1,4 +1,4 @@
-//! The elements of a frame that are One, gathered one by one. `Ones` are those of a whole frame.
+//! The elements of a frame that are One, gathered one by one.
 
 ghost use Rattle.std.specs.Prelude.{◌≡◌, ◌<◌, ◌++◌, ◌∷◌, [], List, length};
 ghost use Rattle.irig_codes.specs.declared.width.Element.{Element};
@@ -7,8 +7,7 @@ ghost use Rattle.irig_codes.specs.{Ones.ones_of, Ones.raised, Reading.counts};
 use crate::ones::Ones;
 use std::marker::Model;
 
-/// Which elements of a frame are One, so far. Each new element is bit 99, the top one, and moves
-/// the others one place down, so no weight has to be kept.
+/// Each new element is bit 99, and moves the others one place down: so no weight has to be kept.
 #[derive(Clone, Copy)]
 pub struct Gathering {
     bits: u128,
@@ -25,7 +24,6 @@ impl Model for Gathering {
 }
 
 impl Gathering {
-    /// No element so far.
     #[inline(always)]
     pub fn none() -> Gathering
         ensures { result ≡ 0 }
@@ -33,9 +31,7 @@ impl Gathering {
         Gathering { bits: 0 }
     }
 
-    /// These elements, and the next one of the frame, which is One or not. `raised` of the contract
-    /// is this number: the elements as bits, the last one as bit 99. After 100 elements the first
-    /// one is bit 0, since each later one moved it down by one place.
+    /// These elements, and the next one of the frame, which is One or not.
     #[inline(always)]
     pub fn and(self, is_one: bool) -> Gathering
         ensures { (frame : List Element) (e : Element) → length frame < 100 → raised frame ≡ self
@@ -46,8 +42,7 @@ impl Gathering {
         }
     }
 
-    /// Which elements of a whole frame are One, element k as bit k. 100 elements must be gathered:
-    /// only then the first is bit 0.
+    /// Which elements of a whole frame are One. Only after 100 elements the first one is bit 0.
     #[inline(always)]
     pub fn ones(self) -> Ones
         ensures { (frame : List Element) → length frame ≡ 100 → raised frame ≡ self

@@ -23,8 +23,6 @@ impl Model for Ones {
     ghost inverse = { λ n. record { bits = n } };
 }
 
-/// Whether an element is One, not Zero or a position identifier: only a One counts in a number
-/// (`counts`).
 #[inline(always)]
 fn is_one(element: Element) -> bool
     ensures { result ≡ counts element }
@@ -33,22 +31,20 @@ fn is_one(element: Element) -> bool
 }
 
 impl Ones {
-    /// Which elements of a frame are One, as the bits of a number.
     pub fn of(frame: &[Element; 100]) -> Ones
         ensures { result ≡ ones_of frame.now }
     {
         let mut bits = 0;
-        // From element 99 down to 0: each doubling moves the elements that are in `bits` up by one,
-        // so element 0 ends as bit 0.
+        // Each doubling moves the elements that are in `bits` up by one, so element 0 ends as bit
+        // 0.
         for place in 0..100 {
             bits = 2 * bits + is_one(frame[99 - place]) as u128;
         }
         Ones { bits }
     }
 
-    /// The number that `count` elements from element `from` on make, from 0. The first of them is
-    /// its lowest bit; a One is 1, all else 0. There is nothing after element 99, so its bits are
-    /// 0. `count` is at most 45, as no number in a frame is longer.
+    /// The number of `count` elements from element `from` on, the first as the lowest bit. Nothing
+    /// is after element 99, and no number in a frame has more than 45 bits.
     #[inline(always)]
     pub fn bits(self, from: u8, count: u8) -> u64
         requires within { from < 100 }
@@ -58,8 +54,7 @@ impl Ones {
         ((self.bits >> from) % (1 << count)) as u64
     }
 
-    /// The lowest element, from 0, that is One and whose bit in `mask` is not set; element k is bit
-    /// k. `None` if there is none.
+    /// The lowest element, from 0, that is One and whose bit in `mask` is not set.
     #[inline(always)]
     pub fn lowest_outside(self, mask: u128) -> Option<u8>
         ensures { IsLowestOutside self mask result }

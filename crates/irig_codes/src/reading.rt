@@ -1,12 +1,5 @@
-//! The fifteen numbers that a frame carries, by its elements that are One. Which elements carry
-//! which number is the table of IRIG Standard 200-04, under "Fields" in `docs/FORMATS.md`.
-//!
-//! `ones.bits(from, count)` is the number of `count` elements from element `from` on, the first as
-//! the lowest bit. Elements 9, 19, 29 and so on are position identifiers, so a longer number is
-//! read in runs of nine. Straight binary seconds are the second of the day as one number, and
-//! control functions are bits for any use, in the control elements. What a format does not have is
-//! 0. In contracts, `runs` are the elements of a field, run by run, and `digit_in` is the number in
-//! its run of the weight 1 (units) or 10 (tens).
+//! The fifteen numbers of a frame, by its elements that are One and the table of IRIG Standard
+//! 200-04.
 
 ghost use Rattle.std.specs.Prelude.{◌≡◌, ◌<◌, ◌+◌, ◌*◌, ◌^◌, [], ◌∷◌, false};
 ghost use Rattle.irig_codes.specs.OnesDigits.{control_number, digit_in, sbs_in, control_in};
@@ -17,7 +10,7 @@ ghost use Rattle.irig_codes.specs.{Ones.bits_in, Layout.runs};
 use crate::format::{Format, Kind};
 use crate::ones::Ones;
 
-/// The units of the hundredths, elements 50 to 53: only format G has them, else it is 0.
+/// Elements 50 to 53 in format G, else 0.
 fn hundredths_units(kind: Kind, ones: Ones) -> u64
     ensures { result ≡ digit_in ones 1 (runs kind false Hundredths) }
 {
@@ -27,7 +20,7 @@ fn hundredths_units(kind: Kind, ones: Ones) -> u64
     }
 }
 
-/// The tens of the hundredths, elements 45 to 48: formats A and G have them, else it is 0.
+/// Elements 45 to 48 in formats A and G, else 0.
 fn hundredths_tens(kind: Kind, ones: Ones) -> u64
     ensures { result ≡ digit_in ones 10 (runs kind false Hundredths) }
 {
@@ -37,7 +30,7 @@ fn hundredths_tens(kind: Kind, ones: Ones) -> u64
     }
 }
 
-/// The units of the seconds, elements 1 to 4: format E has none, so it is 0.
+/// Elements 1 to 4; format E has none, so it is 0.
 fn seconds_units(kind: Kind, ones: Ones) -> u64
     ensures { result ≡ digit_in ones 1 (runs kind false Seconds) }
 {
@@ -47,8 +40,7 @@ fn seconds_units(kind: Kind, ones: Ones) -> u64
     }
 }
 
-/// The units of the year, elements 50 to 53, if the format has one (`year`); else 0. In G these
-/// elements carry hundredths, so the year is ten elements later.
+/// Elements 50 to 53. In G these carry hundredths, so the year is ten elements later.
 fn year_units(kind: Kind, year: bool, ones: Ones) -> u64
     ensures { result ≡ digit_in ones 1 (runs kind year Year) }
 {
@@ -59,8 +51,7 @@ fn year_units(kind: Kind, year: bool, ones: Ones) -> u64
     }
 }
 
-/// The tens of the year, elements 55 to 58, if the format has one (`year`); else 0. In G they are
-/// ten elements later, as the units are.
+/// Elements 55 to 58, or ten elements later in G.
 fn year_tens(kind: Kind, year: bool, ones: Ones) -> u64
     ensures { result ≡ digit_in ones 10 (runs kind year Year) }
 {
@@ -71,8 +62,7 @@ fn year_tens(kind: Kind, year: bool, ones: Ones) -> u64
     }
 }
 
-/// The straight binary seconds, if they are `there`, else 0: 17 bits, in the elements 80 to 88 and
-/// 90 to 97. The first run has nine bits, so the second counts 2^9 = 512.
+/// 17 bits, in the elements 80 to 88 and 90 to 97: so the second run counts 2^9.
 fn sbs(there: bool, ones: Ones) -> u64
     ensures { result ≡ sbs_in there ones }
 {
@@ -83,9 +73,8 @@ fn sbs(there: bool, ones: Ones) -> u64
     }
 }
 
-/// The number of the control elements from `from` on: the nine up to the next position identifier
-/// are its low bits. `after` is the number that the control elements after these make, of at most
-/// 36 bits; it is nine bits higher, so it counts 2^9 = 512.
+/// The number of the nine control elements up to the next position identifier, and of those after
+/// them, `after`, which is nine bits higher.
 #[inline(always)]
 fn nine_at(ones: Ones, from: u8, after: u64) -> u64
     requires within { from < 100 }
@@ -96,8 +85,7 @@ fn nine_at(ones: Ones, from: u8, after: u64) -> u64
     ones.bits(from, 9) + 512 * after
 }
 
-/// The number of the control elements from 70 to 98, as E and G have them, without the position
-/// identifiers.
+/// The number of the control elements from 70 to 98, as E and G have them.
 #[inline(always)]
 fn from_70(ones: Ones) -> u64
     ensures value { result ≡ control_number ones (70 ∷ 80 ∷ 90 ∷ []) }
@@ -106,9 +94,8 @@ fn from_70(ones: Ones) -> u64
     nine_at(ones, 70, nine_at(ones, 80, nine_at(ones, 90, 0)))
 }
 
-/// The control elements as one number, if they are `there`, else 0; the first one is the lowest
-/// bit. Their first element and their count depend on the kind and on whether the format has the
-/// year (`year`), since the year takes nine elements before them.
+/// The control elements as one number, the first one as the lowest bit. The year takes nine
+/// elements before them.
 fn control(kind: Kind, there: bool, year: bool, ones: Ones) -> u64
     ensures { result ≡ control_in kind there year ones }
 {
@@ -124,9 +111,7 @@ fn control(kind: Kind, there: bool, year: bool, ones: Ones) -> u64
     }
 }
 
-/// The fifteen numbers that a frame carries, in the order of `Digit`: units and tens of the
-/// hundredths, the seconds, the minutes and the hours; units, tens and hundreds of the day; units
-/// and tens of the year; straight binary seconds; control functions.
+/// The fifteen numbers that a frame carries, in the order of `Digit`.
 pub fn read_digits(format: Format, ones: Ones) -> [u64; 15]
     ensures { result ≡ digits_in format ones }
 {

@@ -160,8 +160,7 @@ macro_rules! carried {
     ($c:tt $s:tt $part:ident) => { part!(mask $part) };
 }
 
-// The masks of expressions 0 to 7. E and G have one for each, too; nothing asks for those of
-// expressions that they do not permit.
+// The masks of expressions 0 to 7, also of those that E and G do not permit.
 macro_rules! masks {
     ($kind:ident) => { [
         frame!(masked (1 1) $kind plain),

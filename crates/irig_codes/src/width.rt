@@ -1,7 +1,4 @@
-//! Elements of a frame, by the widths of pulses and the steps between them. The interval of a
-//! format is the time from the rise of one element to that of the next; it is a multiple of 20
-//! microseconds, so that its tenths and twentieths are whole, and at most 100,000
-//! (`HasTwentieths`).
+//! Elements of a frame, by the widths of pulses and the steps between them.
 
 ghost use Rattle.std.specs.Prelude.{◌≡◌, ◌<◌};
 ghost use Rattle.irig_codes.specs.Format.{interval_of};
@@ -18,10 +15,8 @@ pub enum Element {
     Position,
 }
 
-/// What a pulse of this width in microseconds means; `None` if the width is bad: in the band of no
-/// element, as `class_in` has them.
-///
-/// The standard gives only nominal widths: 0.2, 0.5 and 0.8 of the interval. The bands meet halfway
+/// What a pulse of this width in microseconds means; `None` if it is in the band of no element. The
+/// standard gives only nominal widths, 0.2, 0.5 and 0.8 of the interval. The bands meet halfway
 /// between them, which is this project's own choice.
 pub fn class(format: Format, width: u64) -> Option<Element>
     ensures { result ≡ class_of format width }
@@ -29,10 +24,8 @@ pub fn class(format: Format, width: u64) -> Option<Element>
     class_in(format.interval(), width)
 }
 
-/// What a pulse of this width means, by the interval of the format, both in microseconds: a loop
-/// over pulses asks for the interval once. The bands begin at 1 twentieth of the interval (`Zero`),
-/// 7 (`One`) and 13 (`Position`), and the last ends at 19: halfway between the nominal widths, 4,
-/// 10 and 16 twentieths, and as far outside. `None` for a width below 1 twentieth, or from 19 on.
+/// As `class`, by the interval in microseconds: a loop over pulses asks for it once. The bands
+/// begin at 1, 7 and 13 twentieths of it, and end at 19.
 #[inline(always)]
 pub fn class_in(interval: u64, width: u64) -> Option<Element>
     requires { HasTwentieths interval }
@@ -52,19 +45,15 @@ pub fn class_in(interval: u64, width: u64) -> Option<Element>
     }
 }
 
-/// Whether two neighbouring rises that are this distance apart, in microseconds, are in step.
-///
-/// They may be off from one interval by a tenth of it, included, which is this project's own
-/// choice.
+/// Whether rises this far apart, in microseconds, are in step. They may be off from one interval by
+/// a tenth of it, included, which is this project's own choice.
 pub fn in_step(format: Format, distance: u64) -> bool
     ensures { result ≡ is_in_step format distance }
 {
     step_in(format.interval(), distance)
 }
 
-/// Whether two neighbouring rises that are this distance apart are in step, by the interval of the
-/// format, both in microseconds: the distance is from nine to eleven tenths of the interval, both
-/// included.
+/// As `in_step`, by the interval of the format, both in microseconds.
 #[inline(always)]
 pub fn step_in(interval: u64, distance: u64) -> bool
     requires { HasTwentieths interval }
@@ -75,8 +64,7 @@ pub fn step_in(interval: u64, distance: u64) -> bool
     distance.wrapping_sub(9 * tenth) <= 2 * tenth
 }
 
-/// The width in microseconds that a pulse of this element is made with: that of the standard. Its
-/// class is the element.
+/// The width in microseconds that a pulse of this element is made with: that of the standard.
 pub fn nominal(format: Format, element: Element) -> u64
     ensures value { result ≡ nominal_of format element }
     ensures told { class_of format result ≡ Some element }

@@ -1,5 +1,4 @@
-//! What people call kinds of time code and classes of pulses. The class of a pulse is the element
-//! that its width means: Zero, One or Position.
+//! What people call kinds of time code and classes of pulses.
 
 ghost use Rattle.std.specs.Prelude.{◌≡◌, ◌≤◌, MatchOption, Some, length, drop};
 ghost use Rattle.std.specs.Str.{bytes_eq};
@@ -42,16 +41,14 @@ pub fn kind_named(word: &[u8]) -> Option<Kind>
     }
 }
 
-/// Whether a text is just the letter of this kind.
 fn is_kind(word: &[u8], kind: Kind) -> bool
     ensures { result ≡ bytes_eq word.now (kind_word kind) }
 {
     word == kind_word(kind).as_bytes()
 }
 
-/// The word of a pulse's element, or `bad` if its width means none (`None`). It is given as eight
-/// bytes that end with the word, and the place in them, from 0, at which it begins. So the caller
-/// that writes a line backwards copies always eight bytes, which is fast.
+/// The word of an element, or `bad`, at the end of eight bytes, and the place in them where it
+/// begins. So a caller that writes a line backwards always copies eight bytes, which is fast.
 pub fn class_word(class: Option<Element>) -> ([u8; 8], usize)
     ensures word { drop result.1 result.0 ≡ class_word class }
     ensures short { result.1 ≤ 8 }
@@ -81,7 +78,6 @@ pub fn element_named(word: &[u8]) -> Option<Element>
     }
 }
 
-/// Whether a text is just the word of this element.
 fn is_element(word: &[u8], element: Element) -> bool
     ensures { result ≡ bytes_eq word.now (element_word element) }
 {
