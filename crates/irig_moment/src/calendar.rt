@@ -1,6 +1,4 @@
-//! Days and years, by the day numbers of jiff, a library that reckons the Gregorian calendar: a day
-//! number is how many days a day comes after the first one that jiff has. A moment is in the years
-//! 1 to 9998 (`IsDay`); the frames generated from the last one can reach into 9999.
+//! Days and years, by the day numbers of jiff, a library that reckons the Gregorian calendar.
 
 ghost use Rattle.std.specs.Prelude.{◌≡◌, ◌+◌, ◌≤◌, ◌<◌, IfSome};
 ghost use Rattle.irig_moment.specs.Calendar.{new_year_of, year_of, place_of, ordinal_day_of};
@@ -9,11 +7,10 @@ ghost use Rattle.irig_moment.specs.Calendar.{civil_day_of, IsDay};
 use jiff::civil::date;
 use jiff_core::civil::{Date, days_in_month, days_in_year};
 
-/// The last year of a moment; the first is 1. It is not 9999, the last year of jiff, so that the
-/// frames after a moment have days, too.
+/// It is not 9999, the last year of jiff, so that the frames after a moment have days, too.
 const LAST_YEAR: u32 = 9_998;
 
-/// The day number of 1 January of a year from 1 to 9999, as jiff gives it.
+/// The day number of 1 January of a year from 1 to 9999.
 fn new_year(year: u32) -> u32
     requires low { 1 ≤ year }
     requires high { year ≤ 9999 }
@@ -22,8 +19,7 @@ fn new_year(year: u32) -> u32
     date(year as i16, 1, 1).to_plain().days_since_min()
 }
 
-/// The day number of a day by its place in the year, from 1 for 1 January. `None` if the year is
-/// not from 1 to 9998, or has no such day.
+/// The day number of a place in a year, from 1. `None`: the years 1 to 9998 have no such day.
 pub fn ordinal_day(year: u32, day: u32) -> Option<u32>
     ensures value { result ≡ ordinal_day_of year day }
     ensures range { IfSome result IsDay }
@@ -37,8 +33,7 @@ pub fn ordinal_day(year: u32, day: u32) -> Option<u32>
     Some(new_year(year) + (day - 1))
 }
 
-/// The day number of a day by month and day, both from 1. `None` if the year is not from 1 to 9998,
-/// or has no such day.
+/// The day number of a month and a day, both from 1.
 pub fn civil_day(year: u32, month: u32, day: u32) -> Option<u32>
     ensures value { result ≡ civil_day_of year month day }
     ensures range { IfSome result IsDay }
@@ -53,8 +48,7 @@ pub fn civil_day(year: u32, month: u32, day: u32) -> Option<u32>
     Some(date.to_plain().days_since_min())
 }
 
-/// The year of a day number, and the place of the day in that year, from 1 for 1 January. The day
-/// has to be in the years 1 to 9999: the clauses are its bounds, and year 9999 has 365 days.
+/// The year of a day number, and the place of the day in it, from 1. Year 9999 has 365 days.
 pub fn year_and_place(day: u32) -> (u32, u32)
     requires from { new_year_of 1 ≤ day }
     requires before { day < new_year_of 9999 + 365 }

@@ -1,9 +1,4 @@
 //! The fields of frames that are generated.
-//!
-//! A day is a number of days after the first one of the calendar of jiff, a library of dates. A
-//! field that the format does not carry is `None`. Straight binary seconds are the second of the
-//! day as one number, and control functions are bits for any use. `year_and_place` gives the year
-//! of a day, and its place in that year, from 1.
 
 ghost use Rattle.std.specs.Prelude.{◌≡◌, ◌+◌, ◌%◌, ◌^◌, ◌≤◌, ◌<◌, IsTrue};
 ghost use Rattle.irig_codes.specs.{Format.control_count_of, Fields.fits_in};
@@ -12,9 +7,7 @@ ghost use Rattle.irig_moment.specs.{Calendar.new_year_of, Generated.period_of, G
 use crate::calendar::year_and_place;
 use irig_codes::{Fields, Format};
 
-/// How long a frame of the format takes, in hundredths of a second. The format counts in
-/// microseconds: 10,000 are a hundredth. Each format's frame is a whole number of them, from 1 (G)
-/// to 1,000 (E).
+/// How long a frame takes, in hundredths of a second: from 1 (G) to 1,000 (E).
 pub fn period(format: Format) -> u32
     ensures value { result ≡ period_of format }
     ensures least { 1 ≤ result }
@@ -23,11 +16,9 @@ pub fn period(format: Format) -> u32
     (format.frame_period() / 10_000) as u32
 }
 
-/// The fields of the frame that begins on a day at `time`, in hundredths of a second since its
-/// midnight, below 8,640,000. `time` must be a whole number of periods after a full minute, so the
-/// format can carry its seconds and hundredths. The year is modulo 100, as a frame has two digits
-/// for it. The straight binary seconds are the whole seconds since midnight. The lowest bit of
-/// `control` is the first control element. A minute has 6,000 hundredths, an hour 360,000.
+/// The fields of the frame that begins on a day at `time`, in hundredths of a second since
+/// midnight: a full minute and a whole number of periods. The year is modulo 100, and the lowest
+/// bit of `control` is the first control element.
 pub fn fields_at(format: Format, day: u32, time: u32, control: u64) -> Fields
     requires from { new_year_of 1 ≤ day }
     requires before { day < new_year_of 9999 + 365 }

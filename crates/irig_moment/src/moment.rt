@@ -1,11 +1,4 @@
 //! Moments: a day and a time of day, to hundredths of a second.
-//!
-//! A day is a number of days after the first one of the calendar of jiff, a library of dates; a day
-//! has 8,640,000 hundredths of a second, without leap seconds. The period of a format is how long a
-//! frame takes, in hundredths of a second. A control element carries one bit for any use.
-//! `has_form` says whether a text has a form, `ordinal_date` and `civil_date` give the day that is
-//! in it, and `time` and `fine_time` the hundredths of a second since midnight; `None` if there is
-//! no such day or time.
 
 ghost use Rattle.std.specs.Prelude.{◌≡◌, ◌<◌, ◌^◌, IsTrue, IfSome};
 ghost use Rattle.irig_codes.specs.{Format.control_count_of, Fields.fits_in};
@@ -17,7 +10,7 @@ use crate::written::{civil_date, fine_time, has_form, ordinal_date, time};
 use irig_codes::{Fields, Format};
 use std::marker::Model;
 
-/// A moment: a day of the years 1 to 9998 and a time of that day, to hundredths of a second.
+/// A day of the years 1 to 9998, and a time of that day, which has no leap second.
 #[derive(Clone, Copy, PartialEq, Eq)]
 pub struct Moment {
     day: u32,
@@ -38,12 +31,11 @@ impl Model for Moment {
 
 impl Moment {
     /// The moment that a text says as `YYYY-DDDThh:mm:ss[.ff]` or `YYYY-MM-DDThh:mm:ss[.ff]`.
-    /// `None` if it has another form, or there is no such day or time.
     pub fn parse(text: &[u8]) -> Option<Moment>
         ensures { result ≡ moment_of text.now }
     {
-        // In a form a 0 is any digit. The time begins at byte 9 after a day of three digits, and at
-        // byte 11 after month and day.
+        // In a form a 0 is any digit. The time is at byte 9 after a day of three digits, else at
+        // 11.
         if has_form(b"0000-000T00:00:00", text) {
             Moment::of(ordinal_date(text), time(text, 9))
         } else if has_form(b"0000-000T00:00:00.00", text) {
@@ -57,8 +49,6 @@ impl Moment {
         }
     }
 
-    /// The moment of a day and the hundredths of a second since its midnight. `None` if one of them
-    /// is `None`: there is no such day or time.
     fn of(day: Option<u32>, hundredths: Option<u32>) -> Option<Moment>
         requires days { IfSome day IsDay }
         requires times { IfSome hundredths (λ time. time < 8640000) }
@@ -70,21 +60,16 @@ impl Moment {
         }
     }
 
-    /// Whether a frame of the format can begin at the moment. One begins at each full minute, and
-    /// then one after each frame period. A minute has 6,000 hundredths of a second, which are a
-    /// whole number of periods.
+    /// Whether a frame can begin at the moment. One begins at each full minute, and then one after
+    /// each frame period.
     pub fn starts(&self, format: Format) -> bool
         ensures { result ≡ starts_in format self.now }
     {
         self.hundredths % 6_000 % period(format) == 0
     }
 
-    /// The fields of frame `k`, from 0 to 9,999, if frame 0 begins at the moment: those of the
-    /// moment plus `k` frame periods, which may be on a later day. A frame of the format must begin
-    /// at the moment (`starts`). A period has at most 1,000 hundredths, so the sum is below 2^32,
-    /// and at most two days are added.
-    ///
-    /// The year is modulo 100; the lowest bit of `control` is the first control element.
+    /// The fields of frame `k`, from 0, if frame 0 begins at the moment. A period has at most 1,000
+    /// hundredths, so the sum is below 2^32, and at most two days are added.
     pub fn fields(&self, format: Format, k: u64, control: u64) -> Fields
         requires starts { IsTrue (starts_in format self.now) }
         requires frames { k < 10000 }

@@ -1,8 +1,4 @@
-//! Numbers in a text of fixed form.
-//!
-//! Places in a text count from 0. Numbers are read only from texts that `has_form` found to have a
-//! form, so each byte that is read as a digit is one. `IsDay` says that a day is in the years 1 to
-//! 9998.
+//! Numbers in a text that has a form, so each byte that is read as a digit is one.
 
 ghost use Rattle.std.specs.Prelude.{◌≡◌, ◌+◌, ◌≤◌, ◌<◌, length, IsTrue, IfSome};
 ghost use Rattle.irig_moment.specs.Calendar.{IsDay};
@@ -11,8 +7,7 @@ ghost use Rattle.irig_moment.specs.Written.{time_at, fine_time_at, ordinal_date,
 
 use crate::calendar::{civil_day, ordinal_day};
 
-/// Whether a text has a form: it is as long as the form, has a digit at each place at which the
-/// form has 0, and the form's character at all others.
+/// Whether a text has a form: any digit at its 0, and its own character at all other places.
 pub fn has_form(form: &[u8], text: &[u8]) -> bool
     ensures value { result ≡ has_form_of form.now text.now }
     ensures long { IsTrue result → length text.now ≡ length form.now }
@@ -28,8 +23,6 @@ pub fn has_form(form: &[u8], text: &[u8]) -> bool
     true
 }
 
-/// Whether a byte fits a character of a form: any digit if the character is 0, else the same
-/// character.
 fn fits_form(form: u8, byte: u8) -> bool
     ensures { result ≡ fits_form_of form byte }
 {
@@ -40,9 +33,7 @@ fn fits_form(form: u8, byte: u8) -> bool
     }
 }
 
-/// The number that `count` decimal digits from a place of a text on make, each of which must be a
-/// digit. They are at most four, so it fits. For a byte below `0`, which does not come,
-/// `saturating_sub` gives 0 instead of an overflow.
+/// They are at most four digits, so the number fits. No byte is below `0`.
 pub fn number(text: &[u8], place: usize, count: usize) -> u32
     requires few { count ≤ 4 }
     requires there { place + count ≤ length text.now }
@@ -55,8 +46,7 @@ pub fn number(text: &[u8], place: usize, count: usize) -> u32
     value
 }
 
-/// The day number, as jiff counts days, of the date `YYYY-DDD` with which a text begins: the year,
-/// and the day in it from 1. `None` if there is no such day, or the year is not from 1 to 9998.
+/// The day number of the date `YYYY-DDD` with which a text begins.
 pub fn ordinal_date(text: &[u8]) -> Option<u32>
     requires { 8 ≤ length text.now }
     ensures value { result ≡ ordinal_date text.now }
@@ -65,8 +55,7 @@ pub fn ordinal_date(text: &[u8]) -> Option<u32>
     ordinal_day(number(text, 0, 4), number(text, 5, 3))
 }
 
-/// The day number, as jiff counts days, of the date `YYYY-MM-DD` with which a text begins. `None`
-/// if there is no such day, or the year is not from 1 to 9998.
+/// The day number of the date `YYYY-MM-DD` with which a text begins.
 pub fn civil_date(text: &[u8]) -> Option<u32>
     requires { 10 ≤ length text.now }
     ensures value { result ≡ civil_date text.now }
@@ -75,8 +64,7 @@ pub fn civil_date(text: &[u8]) -> Option<u32>
     civil_day(number(text, 0, 4), number(text, 5, 2), number(text, 8, 2))
 }
 
-/// The hundredths of a second from midnight to a time of day; the last parameter is the hundredths
-/// within the second. `None` if there is no such time; second 60 is none.
+/// The hundredths from midnight; the last parameter is those in the second. Second 60 is none.
 fn hundredths(hours: u32, minutes: u32, seconds: u32, hundredths: u32) -> Option<u32>
     ensures value { result ≡ hundredths_of hours minutes seconds hundredths }
     ensures range { IfSome result (λ time. time < 8640000) }
@@ -87,8 +75,7 @@ fn hundredths(hours: u32, minutes: u32, seconds: u32, hundredths: u32) -> Option
     Some(360_000 * hours + 6_000 * minutes + 100 * seconds + hundredths)
 }
 
-/// The hundredths of a second from midnight to the time `hh:mm:ss` at a place of a text. `None` if
-/// there is no such time; second 60 is none.
+/// The hundredths of a second from midnight to the time `hh:mm:ss` at a place, from 0.
 pub fn time(text: &[u8], place: usize) -> Option<u32>
     requires { place + 8 ≤ length text.now }
     ensures value { result ≡ time_at text.now place }
@@ -103,8 +90,7 @@ pub fn time(text: &[u8], place: usize) -> Option<u32>
     )
 }
 
-/// The hundredths of a second from midnight to the time `hh:mm:ss.ff` at a place of a text. `None`
-/// if there is no such time; second 60 is none.
+/// The same of the time `hh:mm:ss.ff`.
 pub fn fine_time(text: &[u8], place: usize) -> Option<u32>
     requires { place + 11 ≤ length text.now }
     ensures value { result ≡ fine_time_at text.now place }
