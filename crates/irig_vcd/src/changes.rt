@@ -17,8 +17,9 @@ use crate::token::{Kind, Token, Tokens};
 use crate::trace::Trace;
 use crate::unit::Unit;
 
-/// Reads all tokens of a part, and returns the time after them; `from` is the time before them.
-/// Never inlined, for speed: so it has all registers of the machine.
+/// Reads all tokens of a part, or of a whole dump, and returns the time after them; `from` is the
+/// time before them. First come those that belong to what is open from the part before. Never
+/// inlined, for speed: so it has all registers of the machine.
 #[inline(never)]
 pub fn follow(
     tokens: &mut Tokens,
@@ -43,7 +44,8 @@ pub fn follow(
     }
 }
 
-/// Takes what ends the value or the comment that is open from the part before, if one is.
+/// Takes the tokens that end the value or the comment that is open from the part before, if one is.
+/// If it is still open then, no token is left.
 fn resume(
     tokens: &mut Tokens,
     unit: Unit,
@@ -68,7 +70,8 @@ fn resume(
     Ok(())
 }
 
-/// As `follow`, with nothing open before: what can be taken fast, then one token of any kind.
+/// As `follow`, with nothing open before: in turns all that can be taken fast, and one token of any
+/// kind. `is_plain` says that values on the code are taken fast, `is_quick` that whole pulses are.
 #[inline(always)]
 fn follow_on(
     tokens: &mut Tokens,
@@ -105,8 +108,9 @@ fn follow_on(
     }
 }
 
-/// Takes `token` with what belongs to it, and returns the time after it. Never inlined: so the loop
-/// of `follow_short` keeps its values in registers.
+/// Takes `token`, which is of any kind, with what belongs to it, and returns the time after it. A
+/// level that the wire gets by it goes into the trace. Never inlined: so the loop of `follow_short`
+/// keeps its values in registers.
 #[inline(never)]
 fn take_token(
     token: Token<'_>,

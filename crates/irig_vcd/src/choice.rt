@@ -25,6 +25,7 @@ pub struct Choices<'a> {
     pub by_code: Choice<'a>,
 }
 
+/// A choice with no variable in it yet.
 pub fn new_choice<'a>() -> Choice<'a>
     ensures { Chosen [] result }
 {
@@ -35,7 +36,8 @@ pub fn new_choice<'a>() -> Choice<'a>
     }
 }
 
-/// Both choices after one more variable, which goes into both, one or none of them.
+/// Both choices after one more variable, which goes into both, one or none of them: by its
+/// reference, and by its code.
 pub fn with_variable<'a>(
     choices: Choices<'a>,
     variable: Variable<'a>,
@@ -115,6 +117,7 @@ fn put_if<'a>(is_in: bool, choice: Choice<'a>, variable: Variable<'a>) -> Choice
     if is_in { put(choice, variable) } else { choice }
 }
 
+/// The first variable gives the code; a later one with another code sets `many`.
 fn put<'a>(choice: Choice<'a>, variable: Variable<'a>) -> Choice<'a>
     ensures { (vs : List Declared)
         → Chosen vs choice.entry

@@ -50,7 +50,7 @@ impl DumpReader {
         DumpReader::of_extent(alloc, wire, Extent::short(None))
     }
 
-    /// A reader that keeps as much of a dump as `extent` says.
+    /// A reader that has read nothing yet, and keeps as much of a dump as `extent` says.
     pub fn of_extent(
         alloc: Global,
         wire: Option<&[u8]>,
@@ -85,8 +85,9 @@ impl DumpReader {
             && count <= LIMIT - progress.gone - progress.held.len()
     }
 
-    /// Takes the next part. A fault is one that the dump has whatever comes after it. Memory runs
-    /// out only for bytes that are held, an edge, the wire's code, and the first journal.
+    /// The reader after the next part, which is read, or held until enough is there. A fault is one
+    /// that the dump has whatever comes after it. Memory runs out only for bytes that are held, an
+    /// edge, the wire's code, and the first journal.
     pub fn put(self, part: &[u8]) -> Result<DumpReader, VcdFault>
         requires short { bytes_read self + length part.now ≤ 2 ^ 48 }
         ensures read { IfOk result (λ r. (wire : Option (List ℕ)) (bytes : List ℕ)

@@ -15,7 +15,7 @@ pub struct Extent {
 }
 
 impl Extent {
-    /// At most 2^22 pulses, as a track has that is edited.
+    /// A window of a dump, or all of it, with at most 2^22 pulses, as a track has that is edited.
     pub fn short(window: Option<Window>) -> Extent
         ensures { result ≡ short window }
     {
@@ -25,7 +25,7 @@ impl Extent {
         }
     }
 
-    /// At most 2^26 pulses.
+    /// A window of a dump, or all of it, with at most 2^26 pulses.
     pub fn long(window: Option<Window>) -> Extent
         ensures { result ≡ long window }
     {

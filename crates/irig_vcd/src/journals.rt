@@ -43,6 +43,7 @@ pub struct Journals {
 }
 
 impl Journals {
+    /// No journal yet.
     pub fn new() -> Journals
         ensures { Holds [] result }
     {
@@ -52,7 +53,8 @@ impl Journals {
         }
     }
 
-    /// Notes one more journal, which comes after the others in the dump.
+    /// Notes one more journal, which comes after the others in the dump: the place of the first, of
+    /// any other only that there is one.
     fn put(&mut self, place: Place)
         ensures { (all : List Comment) (c : Comment)
             → place.start ≡ c.first.offset → place.end ≡ c.end
@@ -82,7 +84,8 @@ impl Journals {
         Pending::Nothing
     }
 
-    /// Takes a comment whose `$comment` was read. It may have no word.
+    /// Takes a comment whose `$comment` was read. It may have no word before its `$end`: then it is
+    /// no journal.
     pub fn take_comment(&mut self, tokens: &mut Tokens) -> Pending
         ensures read { (code : List ℕ) (unit : ℕ) (s : Scan) → Keeps s self.old pending.Comment
             → Reaches code unit s tokens.old None tokens.new self.new result }

@@ -99,8 +99,8 @@ fn digits_count(source: &[u8], from: usize) -> usize
 }
 
 /// Where the digits from the place `from` on end, and their number; the place itself and 0 if there
-/// are none or more than 15. The 16 bytes before their end are read, so that they are the last
-/// lanes.
+/// are none or more than 15. It reads the 16 bytes from the place on, to count the digits, and then
+/// the 16 before their end, so that these are the last lanes.
 #[inline(always)]
 pub fn lanes_end(source: &[u8], from: usize) -> (usize, u64)
     requires back { 16 ≤ from }

@@ -17,7 +17,8 @@ use crate::reading::{Body, Reading};
 use crate::unit::Unit;
 use irig_recording::LongRecording;
 
-/// Reads all bytes that are held. A fault of the declarations is final now, and so an error.
+/// Reads all bytes that are held, as nothing comes after them, and keeps what is of the first
+/// journal. A fault of the declarations is final now, and so an error as any other.
 pub fn read_rest(progress: &mut Progress) -> Result<Unit, VcdFault>
     requires reader { IsReader progress.old }
     ensures extent { progress.new.reading.trace.extent ≡ progress.old.reading.trace.extent }

@@ -12,7 +12,8 @@ use crate::fault::VcdFault;
 use crate::part::whole_len;
 use crate::progress::Progress;
 
-/// `wanted` says how many are enough, so the same bytes are not read again for each small part.
+/// Holds the next part, and reads what is held if it is enough. `wanted` says how many bytes are:
+/// so the same ones are not read again for each small part.
 pub fn put_part(progress: &mut Progress, part: &[u8]) -> Result<(), VcdFault>
     requires reader { IsReader progress.old }
     requires short { bytes_read progress.old + length part.now ≤ 2 ^ 48 }

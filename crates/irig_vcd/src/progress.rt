@@ -31,9 +31,9 @@ pub struct Progress {
 }
 
 impl Progress {
-    /// Reads the first `whole` of the bytes that are held. `Ok(Err(fault))`: nothing is read, as
-    /// the declarations have a fault, which more bytes may change. `Err`: a fault that stays, or
-    /// memory ran out.
+    /// Reads the first `whole` of the bytes that are held: the declarations, if there is no unit
+    /// yet, and changes. `Ok(Err(fault))`: nothing is read, as the declarations have a fault, which
+    /// more bytes may change. `Err`: a fault that stays, or memory ran out.
     pub fn read_to(&mut self, whole: usize) -> Result<Result<Unit, VcdFault>, VcdFault>
         requires within { whole ≤ vec_len self.old.held }
         requires ready { IsReady self.old.unit self.old.reading }
@@ -140,6 +140,7 @@ impl Progress {
     }
 }
 
+/// The wire's name as a slice of the `Vec` that keeps it.
 fn name_slice(wire: &Option<Vec<u8>>) -> Option<&[u8]>
     ensures { name_of result ≡ bytes_of wire.now }
 {
@@ -149,6 +150,7 @@ fn name_slice(wire: &Option<Vec<u8>>) -> Option<&[u8]>
     }
 }
 
+/// Removes the first `count` bytes; the others move to the front.
 fn drop_front(bytes: &mut Vec<u8>, count: usize)
     requires { count ≤ vec_len bytes.old }
     ensures { bytes.new.items ≡ drop count bytes.old.items }

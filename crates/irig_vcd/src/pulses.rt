@@ -18,6 +18,7 @@ use std::alloc::AllocError;
 const LONGEST_PULSE: usize = 64;
 
 /// The rise and the fall at the place `at`, in microseconds later than `after` and up to `limit`.
+/// `back` and `room` are what `edge_at` needs for both.
 #[inline(always)]
 fn pulse_at(
     source: &[u8],
@@ -48,9 +49,9 @@ fn pulse_at(
     Some((rise, fall))
 }
 
-/// Takes the pulses that come next, and returns the time of the last fall, or `from` without any. A
-/// unit of 9 or 6 is passed on as a constant: so times are cut faster. Never inlined, for speed: so
-/// its state stays in registers.
+/// Takes the pulses that come next into the trace, and returns the time of the last fall, or `from`
+/// if there are none. A microsecond (9) and a nanosecond (6) are passed on as constants: so times
+/// are cut faster. Never inlined, for speed: so its state stays in registers.
 #[inline(never)]
 pub fn take_pulses(
     tokens: &mut Tokens,
@@ -109,8 +110,9 @@ fn take_in_micros(
     Ok(clock.whole)
 }
 
-/// The loop over the pulses. It stops at the first place that has no pulse, not 16 bytes before it
-/// or 64 after it, or for which the trace has no room.
+/// The loop over the pulses. It stops at the first place that has no pulse (`pulse_at`), that has
+/// not 16 bytes before it and 64 after it, or for which the trace has no room. What is not taken
+/// here is read in the slower way.
 #[inline(always)]
 fn take_in_unit(
     tokens: &mut Tokens,

@@ -38,6 +38,7 @@ pub struct Body {
 }
 
 impl Reading {
+    /// A reading that has read nothing yet: the time is 0.
     pub fn new(alloc: Global, extent: Extent) -> Reading
         ensures start { (unit : ℕ) → StandsAt unit start result }
         ensures time { (unit : ℕ) → IsOn unit result.trace result.clock }
@@ -72,7 +73,7 @@ impl Reading {
     }
 
     /// What was read, if nothing comes after it. `BadToken` if a value without its code is open,
-    /// `Unclosed` if a comment is; an edge too many is no error here.
+    /// `Unclosed` if a comment is; an edge too many is no error here, as the caller tests for it.
     pub fn finish(self, unit: Unit) -> Result<Body, VcdFault>
         requires time { IsOn unit self.trace self.clock }
         ensures exact { (s : Scan) → StandsAt unit s self

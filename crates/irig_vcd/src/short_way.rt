@@ -38,8 +38,9 @@ pub fn is_quick(is_plain: bool, unit: Unit, code: &[u8]) -> bool
     is_plain && unit.divides_microsecond() && code.len() == 1
 }
 
-/// Takes tokens as long as they are short, and returns the time after them. The caller asks
-/// `is_plain` and `is_quick` once.
+/// Takes tokens as long as they are short, and returns the time after them; `from` is the time
+/// before them. `Backward` for a time before the last one, `TimeTooLarge` for one above 2^40
+/// microseconds. `is_plain` and `is_quick` are asked once, by the caller.
 #[inline(always)]
 pub fn follow_short(
     is_plain: bool,
@@ -82,6 +83,7 @@ pub fn follow_short(
     }
 }
 
+/// Whether a time begins at the place `at`.
 #[inline(always)]
 fn has_sign(source: &[u8], at: usize) -> bool
     ensures { result ≡ true ↔ (at < length source.now) × (slice_index source.now at ≡ 35) }
@@ -123,7 +125,8 @@ fn take_ahead(
     Ok(clock)
 }
 
-/// Takes a value on the code, with the pulses after it, and returns the time after them.
+/// Takes a value on the code, which was read just now: the trace gets its level (`high`) at the
+/// time `clock`. Then takes the pulses after it, and returns the time of the last fall.
 #[inline(always)]
 fn take_bit(
     high: bool,

@@ -49,7 +49,7 @@ pub fn begin(
     }
 }
 
-/// Reads a part that is after the declarations, and after `gone` bytes of the dump.
+/// Reads a part that is after the declarations: `gone` bytes of the dump are before it.
 pub fn go_on(
     unit: Unit,
     code: &[u8],

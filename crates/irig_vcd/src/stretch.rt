@@ -11,9 +11,9 @@ use irig_recording::LENGTH_LIMIT;
 use std::alloc::AllocError;
 
 /// What becomes of the edges from the trace's time up to and with the microsecond `limit`. If
-/// `is_kept` is true, they are in the window: each is kept at its time less `from` when the next
-/// one comes, and at most 2 * `most` + 1 of all. No two are in one microsecond, so the steps are
-/// fast.
+/// `is_kept` is true, they are in the window: each is kept at its time less `from`, and at most 2 *
+/// `most` + 1 of all edges of the dump. No two are in one microsecond, so no test is needed for
+/// that, and the steps are fast.
 #[derive(Clone, Copy)]
 pub struct Stretch {
     pub from: u64,
@@ -23,6 +23,7 @@ pub struct Stretch {
 }
 
 impl Trace {
+    /// Whether the level is low after the last change.
     #[inline(always)]
     pub fn is_low(&self) -> bool
         ensures { result ≡ true → self.entry.now.now ≡ false }
@@ -30,8 +31,9 @@ impl Trace {
         !self.now
     }
 
-    /// The stretch that begins at the trace's time: before the window, after it, or in it at a fall
-    /// whose rise is kept. Else in the window there is none, as no fall waits.
+    /// The stretch that begins at the trace's time. Before the window it goes up to its begin;
+    /// after it, to the end of the dump; in it, at a fall whose rise is kept, up to its end. Else
+    /// in the window there is none, as no fall waits.
     #[inline(always)]
     pub fn stretch(&self) -> Option<Stretch>
         requires { self.now.now ≡ false }
@@ -68,8 +70,9 @@ impl Trace {
         self.edges.has_room(stretch.most)
     }
 
-    /// Takes the next rise and the next fall, for which the caller asked `has_room`. If edges are
-    /// kept, the fall that waits is kept with `rise`, and then `fall` waits.
+    /// Takes the next rise and the next fall, for which the caller asked `has_room`. The last fall
+    /// of a trace is not kept before the next rise comes: if edges are kept, the fall that waits is
+    /// kept with `rise`, and then `fall` waits.
     #[inline(always)]
     pub fn put_pulse(&mut self, rise: u64, fall: u64, stretch: Stretch) -> Result<(), AllocError>
         requires here { LiesOn stretch self.old }

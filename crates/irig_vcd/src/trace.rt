@@ -14,9 +14,9 @@ use crate::window::moved;
 use irig_recording::Edges;
 use std::alloc::{AllocError, Global};
 
-/// A level that was followed up to `time`, in microseconds of the dump. The last change in a
-/// microsecond counts: so an edge is kept only when the trace goes on to a later one of the window,
-/// if the level differs from that of the microsecond before (`before`).
+/// A level that was followed up to `time`, in microseconds of the dump; it is `now` from there on.
+/// The last change in a microsecond counts: so an edge is kept only when the trace goes on to a
+/// later one of the window, if the level differs from that of the microsecond before (`before`).
 #[derive(Drop)]
 pub struct Trace {
     pub extent: Extent,
@@ -42,8 +42,9 @@ impl Trace {
         }
     }
 
-    /// Goes on to `time`. If it falls on a later microsecond of the window than the last time, the
-    /// level there is settled, and an edge is kept if it differs from the one before.
+    /// Goes on to `time`; the level does not change. If that falls on a later microsecond of the
+    /// window than the last time, the level there is settled, and an edge is kept if it differs
+    /// from the one before. On the same one a further change may come.
     fn advance(&mut self, time: u64) -> Result<(), AllocError>
         requires { self.old.time ≤ time }
         ensures ok { OnOk result
@@ -86,8 +87,8 @@ impl Trace {
         Ok(())
     }
 
-    /// The edges of the window if the dump ends at `end`. If the level is high, a fall is added
-    /// there.
+    /// The edges of the window, each at its microsecond of the window, if the dump ends at `end`.
+    /// If the level is high there, a fall is added, so that the last pulse ends.
     pub fn finish(mut self, end: u64) -> Result<Edges, AllocError>
         requires { self.time ≤ end }
         ensures edges { IfOk result
@@ -111,7 +112,8 @@ fn differ(level: bool, other: bool) -> bool
     level != other
 }
 
-/// Adds an edge if `is_edge` is true, unless there are more already than `most` pulses have.
+/// Adds an edge if `is_edge` is true, unless there are more already than `most` pulses have: that
+/// there are too many can be seen then.
 fn keep(edges: &mut Edges, most: usize, is_edge: bool, edge: u64) -> Result<(), AllocError>
     requires limit { most ≤ 2 ^ 26 }
     ensures ok { OnOk result

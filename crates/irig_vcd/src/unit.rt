@@ -6,7 +6,8 @@ ghost use Rattle.irig_vcd.specs.Code.Time.{factor_of, limit_of};
 use irig_recording::LENGTH_LIMIT;
 use std::marker::Model;
 
-/// A unit of time: a power of ten of femtoseconds, from 0 (1 fs) to 17 (100 s).
+/// A unit of time: a power of ten of femtoseconds, from 0 (1 fs) to 17 (100 s). A microsecond is 9,
+/// a nanosecond 6.
 #[derive(Clone, Copy)]
 pub struct Unit {
     exponent: u8,
@@ -46,6 +47,7 @@ impl Unit {
         self.exponent == 6
     }
 
+    /// Whether a microsecond is a whole number of units.
     pub fn divides_microsecond(self) -> bool
         ensures { result ≡ nat_le self 9 }
     {

@@ -9,8 +9,8 @@ ghost use Rattle.irig_vcd.specs.{Code.Token.word_of};
 use crate::fault::VcdFault;
 use crate::token::{Kind, Token};
 
-/// The level of a value of one bit, with its code in the same word. `None` if that is another code
-/// than the wire's, `BadToken` if there is none.
+/// The level of a value of one bit: only `1` is high. Its code is in the same word: `None` if that
+/// is another one than the wire's, `BadToken` if there is none.
 pub fn scalar(code: &[u8], token: Token<'_>) -> Result<Option<bool>, VcdFault>
     ensures { Gives (λ level. level) result (scalar_level code.now (word_of token.entry)) }
 {
@@ -37,7 +37,8 @@ fn bit(offset: usize, byte: u8) -> Result<Option<bool>, VcdFault>
     }
 }
 
-/// The level of a vector's last byte, the lowest bit. `BadToken` if it has none.
+/// The level of a vector's last byte, the lowest bit. `BadToken` if nothing is after its `b`, or if
+/// that byte is no bit.
 fn vector(token: Token<'_>) -> Result<Option<bool>, VcdFault>
     ensures { (code next : List ℕ) → vector_level code (word_of token.entry) next
         ≡ (if bytes_eq next code then result else Ok None) }
