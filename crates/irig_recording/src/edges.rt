@@ -147,8 +147,9 @@ fn grow(pulses: &mut Gap<Pulse>) -> Result<(), AllocError>
     pulses.grow(twice.min(next_limit(old)))
 }
 
-/// The largest capacity, in pulses, to which a full buffer may grow: all that a recording needs, or
-/// a long one. The 1024 more make it larger than the capacity also at these limits.
+/// The largest capacity, in pulses, to which a full buffer may grow: 2^22 + 1024, which is all that
+/// a recording needs, or, above it, 2^26 + 1024 for a long one. The 1024 more make it larger than
+/// the capacity also at these limits.
 fn next_limit(capacity: usize) -> usize
     requires few { capacity ≤ 2 ^ 26 }
     ensures more { capacity < result }

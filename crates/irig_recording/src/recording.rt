@@ -53,7 +53,7 @@ impl Recording {
         Ok(Some(Recording::from_parts(length, pulses)))
     }
 
-    /// The caller knows what `LongRecording::from_parts` asks for.
+    /// The recording of a length and pulses that make one; no limit is tested here.
     pub fn from_parts(micros: u64, pulses: Gap<Pulse>) -> Recording
         requires lawful { IsRecording micros (edges_of pulses.items) }
         requires place { pulses.place ≡ length pulses.items }
