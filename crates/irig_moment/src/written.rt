@@ -33,7 +33,7 @@ fn fits_form(form: u8, byte: u8) -> bool
     }
 }
 
-/// They are at most four digits, so the number fits. No byte is below `0`.
+/// They are at most four digits, so the number fits. A byte below `0` does not come.
 pub fn number(text: &[u8], place: usize, count: usize) -> u32
     requires few { count ≤ 4 }
     requires there { place + count ≤ length text.now }
