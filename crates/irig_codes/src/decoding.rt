@@ -17,8 +17,9 @@ use crate::reading::read_digits;
 use crate::used::used;
 use crate::width::Element;
 
-/// The fields, which may be out of range, and the first note that holds. Their order is this
-/// project's own choice: a wrong field, straight binary seconds that disagree, a stray element.
+/// The fields, which may be out of range, and the first note that holds. The order of the notes is
+/// this project's own choice: a wrong field, straight binary seconds that disagree, a stray
+/// element.
 pub fn decode(format: Format, frame: &[Element; 100]) -> (Fields, Note)
     ensures { result ≡ decoded format frame.now }
 {

@@ -35,8 +35,7 @@ impl Ones {
         ensures { result ≡ ones_of frame.now }
     {
         let mut bits = 0;
-        // Each doubling moves the elements that are in `bits` up by one, so element 0 ends as bit
-        // 0.
+        // Each doubling moves the elements in `bits` up by one, so element 0 ends as bit 0.
         for place in 0..100 {
             bits = 2 * bits + is_one(frame[99 - place]) as u128;
         }

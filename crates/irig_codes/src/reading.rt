@@ -1,5 +1,4 @@
-//! The fifteen numbers of a frame, by its elements that are One and the table of IRIG Standard
-//! 200-04.
+//! The fifteen numbers of a frame, by the elements that are One and the table of the standard.
 
 ghost use Rattle.std.specs.Prelude.{◌≡◌, ◌<◌, ◌+◌, ◌*◌, ◌^◌, [], ◌∷◌, false};
 ghost use Rattle.irig_codes.specs.OnesDigits.{control_number, digit_in, sbs_in, control_in};

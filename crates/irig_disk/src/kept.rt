@@ -2,8 +2,7 @@
 
 ghost use Rattle.std.specs.Prelude.{◌≡◌};
 
-/// A text was written whole, and each crash from now on leaves it. Only `NewText::finish` makes
-/// one.
+/// A text was written whole, and each crash leaves it. Only `NewText::finish` makes one.
 #[derive(Drop)]
 pub struct Kept {
     pub(crate) count: u64,

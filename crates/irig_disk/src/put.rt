@@ -19,8 +19,7 @@ use irig_text::{ENOUGH, Text};
 
 /// Writes a text to the name `target` in the open folder `dir`, with a mode (`None`: the usual
 /// one). Until the new file takes that name, its own is `stem` and a number. `name` and `block` are
-/// memory for that and for parts of the text; what they hold is lost. README says what a fault
-/// leaves.
+/// memory for it and for parts of the text. The README says what a fault leaves.
 pub fn put_text<F: Folder, T: Text>(
     folder: &mut F,
     dir: &F::Dir,
@@ -101,7 +100,7 @@ fn finish_or_give_up<F: Folder>(
     }
 }
 
-/// Writes all of a text to the new file, block by block. Of an error a part may be in the file.
+/// Writes all of a text to the new file, block by block. After an error a part may be in the file.
 fn append_all<F: Folder, T: Text>(
     folder: &mut F,
     new: &mut NewText<'_, F>,

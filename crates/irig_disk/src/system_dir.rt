@@ -41,8 +41,7 @@ impl<F: Drop> SystemDir<F> {
         self.hold(fs::open(runtime, path))
     }
 
-    /// Holds the folder that a call opened. It is on its own for its contract, which can name
-    /// `opened`.
+    /// Holds the folder that a call opened; on its own for its contract, which can name `opened`.
     fn hold(&mut self, opened: io::Result<F>) -> Result<(), SystemFault>
         ensures held { IfOk opened (λ folder. self.new.file ≡ Some folder) }
         ensures done { IsOk result ↔ IsOk opened }

@@ -17,7 +17,7 @@ pub fn period(format: Format) -> u32
 }
 
 /// The fields of the frame that begins on a day at `time`, in hundredths of a second since
-/// midnight: a full minute and a whole number of periods. The year is modulo 100, and the lowest
+/// midnight, a whole number of periods after a full minute. The year is modulo 100, and the lowest
 /// bit of `control` is the first control element.
 pub fn fields_at(format: Format, day: u32, time: u32, control: u64) -> Fields
     requires from { new_year_of 1 ≤ day }

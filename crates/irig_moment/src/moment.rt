@@ -34,8 +34,7 @@ impl Moment {
     pub fn parse(text: &[u8]) -> Option<Moment>
         ensures { result ≡ moment_of text.now }
     {
-        // In a form a 0 is any digit. The time is at byte 9 after a day of three digits, else at
-        // 11.
+        // In a form a 0 is any digit. The time is at byte 9 after a day of three digits.
         if has_form(b"0000-000T00:00:00", text) {
             Moment::of(ordinal_date(text), time(text, 9))
         } else if has_form(b"0000-000T00:00:00.00", text) {

@@ -103,8 +103,7 @@ impl Edges {
         Ok(())
     }
 
-    /// The pulses of the edges, in the same block of memory. The last edge, if any, has to be a
-    /// fall.
+    /// The pulses of the edges, in the same block of memory. The last edge, if any, is a fall.
     pub fn into_pulses(self) -> Gap<Pulse>
         requires { is_even_long self ≡ true }
         ensures edges { edges_of result.items ≡ self }

@@ -27,8 +27,7 @@ pub struct KeptPulse {
 }
 
 impl KeptPulse {
-    /// Both edges are at 10,000 microseconds, the least time of five digits: lines to be written
-    /// over.
+    /// Lines to be written over: both edges are at 10,000 microseconds, the least of five digits.
     pub fn new() -> KeptPulse
         ensures { HoldsPulse result }
     {

@@ -38,8 +38,7 @@ impl Model for Recording {
 }
 
 impl Recording {
-    /// `None` unless this length and these edges, in microseconds, make a recording
-    /// (`is_recording`).
+    /// `None` unless these make a recording (`is_recording`); both are in microseconds.
     pub fn new(alloc: Global, length: u64, edges: &[u64]) -> Result<Option<Recording>, AllocError>
         ensures accepted { IfOk result (λ r. IsSome r ↔ IsRecording length edges.now) }
         ensures view { IfOk result (λ r. IfSome r (λ made.
@@ -107,7 +106,7 @@ fn pulses_of(alloc: Global, edges: &[u64]) -> Result<Gap<Pulse>, AllocError>
     Ok(kept.into_pulses())
 }
 
-/// The length is at most 2^40, the edges are at most 2^23 and even in number, and each is above the
+/// The length is at most 2^40; the edges are even in number, at most 2^23, and each is above the
 /// one before it and at most the length.
 fn is_recording(length: u64, edges: &[u64]) -> bool
     ensures { IsTrue result ↔ IsRecording length edges.now }

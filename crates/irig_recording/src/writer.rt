@@ -16,8 +16,8 @@ use std::alloc::{AllocError, Global};
 use std::marker::Model;
 
 /// `last` is the time of the last edge, in microseconds, or 0 before the first. In `line` a time
-/// ends before byte 21, from 0, and a newline, the level, the code (`!`) and a newline are the next
-/// four.
+/// ends before byte 21, from 0; the next four are a newline, the level, the code (`!`) and a
+/// newline.
 #[derive(Drop)]
 pub struct TextWriter {
     line: [u8; 48],
@@ -76,9 +76,8 @@ impl TextWriter {
         put_lines(text, &mut self.line, edge, high)
     }
 
-    /// Writes the lines of a pulse, in microseconds. There are three ways, the fastest first: the
-    /// last four digits of the kept pulse (`catch_up`), a new one to be kept (`renew`), edge by
-    /// edge.
+    /// Writes the lines of a pulse, in microseconds, in the fastest way that fits: by the last four
+    /// digits of the kept pulse (`catch_up`), by a new one (`renew`), or edge by edge.
     #[inline(always)]
     pub fn put_pulse(&mut self, text: &mut Vec<u8>, rise: u64, fall: u64) -> Result<(), AllocError>
         ensures text { OnOk result
@@ -100,8 +99,7 @@ impl TextWriter {
         self.pulse.put(text, rise, fall)
     }
 
-    /// Ends a text: writes the line of the length, in microseconds, unless the last time is the
-    /// length.
+    /// Ends a text: writes the line of the length, in microseconds, if the last time is another.
     pub fn finish(&self, text: &mut Vec<u8>, length: u64) -> Result<(), AllocError>
         ensures text { OnOk result
             (text.new.items ≡ text.old.items ++ length_line self.now.last length) }

@@ -40,8 +40,7 @@ impl Model for DumpReader {
 }
 
 impl DumpReader {
-    /// A reader of all of a dump of at most 2^22 pulses; without a name, of the one wire of one
-    /// bit.
+    /// A reader of all of a dump of at most 2^22 pulses; `None` is the one wire of one bit.
     pub fn new(alloc: Global, wire: Option<&[u8]>) -> Result<DumpReader, AllocError>
         ensures read { IfOk result (HasRead (name_of wire.entry) []) }
         ensures whole { IfOk result (λ r. r.reading.trace.extent ≡ short None) }

@@ -84,8 +84,8 @@ impl Journals {
         Pending::Nothing
     }
 
-    /// Takes a comment whose `$comment` was read. It may have no word before its `$end`: then it is
-    /// no journal.
+    /// Takes a comment whose `$comment` was read. Without a word before its `$end` it is no
+    /// journal.
     pub fn take_comment(&mut self, tokens: &mut Tokens) -> Pending
         ensures read { (code : List ℕ) (unit : ℕ) (s : Scan) → Keeps s self.old pending.Comment
             → Reaches code unit s tokens.old None tokens.new self.new result }
@@ -113,8 +113,7 @@ impl Journals {
         }
     }
 
-    /// The one journal, whose text the caller gathered as `bytes`; `BadJournal(1)` if there are
-    /// more.
+    /// The one journal, which the caller gathered as `bytes`; `BadJournal(1)` if there are more.
     pub fn gathered_text(self, bytes: Vec<u8>) -> Result<Option<Vec<u8>>, VcdFault>
         ensures one { (all : List Comment) (dump : List ℕ) → Holds all self
             → IfSome self.first (λ p. text_at dump (Some p) ≡ Some bytes.items)

@@ -31,9 +31,9 @@ impl Trace {
         !self.now
     }
 
-    /// The stretch that begins at the trace's time. Before the window it goes up to its begin;
-    /// after it, to the end of the dump; in it, at a fall whose rise is kept, up to its end. Else
-    /// in the window there is none, as no fall waits.
+    /// The stretch that begins at the trace's time. Before the window it goes up to its begin,
+    /// after it to `LENGTH_LIMIT`, and in it, at a fall whose rise is kept, up to its end. Else in
+    /// the window there is none, as no fall waits.
     #[inline(always)]
     pub fn stretch(&self) -> Option<Stretch>
         requires { self.now.now ≡ false }

@@ -50,8 +50,7 @@ fn vector(token: Token<'_>) -> Result<Option<bool>, VcdFault>
     bit(token.offset, token.slice[len - 1])
 }
 
-/// The level of a value whose code, the next word, the caller looks at. A real and a text have
-/// none.
+/// The level of a value whose code, the next word, the caller looks at: none of a real or a text.
 pub fn own_level(token: Token<'_>) -> Result<Option<bool>, VcdFault>
     requires { takes_code (kind_view token.kind) ≡ true }
     ensures { (code next : List ℕ)
