@@ -66,8 +66,9 @@ impl Journals {
         }
     }
 
-    /// Takes a comment from its second word up to its `$end`, or all tokens: then it stays open.
-    /// `journal` is where its first word begins, if it is a journal.
+    /// Takes the rest of a comment whose first word was read, up to its `$end`; without one it
+    /// takes all tokens, and the comment stays open. `journal` is where that word begins, if it is
+    /// a journal.
     pub fn take_rest(&mut self, journal: Option<usize>, tokens: &mut Tokens) -> Pending
         ensures read { (code : List ℕ) (unit : ℕ) (s : Scan)
             → Keeps s self.old (pending.Rest journal)

@@ -91,8 +91,8 @@ fn has_sign(source: &[u8], at: usize) -> bool
     at < source.len() && source[at] == b'#'
 }
 
-/// Takes the whole pulses that come next, and returns the time of the last fall, or `clock`. It
-/// takes none if the level is high, or if the trace has no stretch.
+/// Takes the whole pulses that come next, and returns the time of the last fall, or `clock` without
+/// any. It takes none unless `is_quick` is true, the level is low and the trace has a stretch.
 #[inline(always)]
 fn take_ahead(
     is_quick: bool,
