@@ -1,10 +1,4 @@
-//! Whether the times of two frames are as far apart as their markers. A marker is a frame's first
-//! pulse. `from` and `to` are two frames, as parts, or their times, `from` the earlier one. A part
-//! is pulses in a row, as elements of one frame whose time is known. A period is how long a frame
-//! lasts. Rises, periods and distances are in microseconds. `century` is that of years of two
-//! digits: 20 for 2000 to 2099. `Lens` shows the pulses of a track. Three periods or more are
-//! compared by the microseconds of one day, so not over midnight. Bounds in `requires`, as 2 ^ 42
-//! and 2 ^ 59, only keep sums and products in their types.
+//! Whether the times of two frames, `from` and then `to`, are as far apart as their markers.
 
 ghost use Rattle.std.specs.Prelude.{◌≡◌, ◌≤◌, ◌<◌, ◌+◌, ◌*◌, ◌^◌, IfSome, Some, slice_get};
 ghost use Rattle.irig_codes.specs.Format.{frame_period_of};
@@ -21,12 +15,11 @@ use irig_codes::Format;
 use irig_recording::Pulse;
 use irig_track::Lens;
 
-/// The microseconds of a minute without a second 60.
+/// In microseconds.
 const MINUTE: u64 = 60_000_000;
 
-/// Whether the times of two frames are as many periods apart as their markers, to the nearest
-/// number (`periods_between`), but at least 1: `are_apart` compares them. Also true if nothing can
-/// be compared: a marker is not there, or there are three periods or more over midnight.
+/// Whether the times of two frames are as many periods apart as their markers. Also true if nothing
+/// can be compared: a marker is not there, or three periods or more are over midnight.
 pub fn are_apart_by(
     pulses: &mut Lens<'_>,
     format: Format,
@@ -55,10 +48,8 @@ pub fn are_apart_by(
     }
 }
 
-/// Whether two times can be those of frames that are `count` periods apart; a `count` of 0 is taken
-/// as 1. If it is 1, the second time has to be one period later (`is_later`). If it is 2, the one
-/// frame between them must have a time (`middle`). If it is more, the microseconds of the day are
-/// compared; over midnight they are not, and the answer is true.
+/// Whether two times can be those of frames `count` periods apart; 0 is taken as 1. Three periods
+/// or more are compared by the microseconds of one day, so over midnight it is true.
 pub fn are_apart(century: u32, period: u64, count: u64, from: &Time, to: &Time) -> bool
     requires century { century ≤ 99 }
     requires small { (period < 2 ^ 25) × (count < 2 ^ 42 + 2) }
@@ -74,8 +65,7 @@ pub fn are_apart(century: u32, period: u64, count: u64, from: &Time, to: &Time) 
     !same_day(from, to) || u128::from(day_micros(to)) == later_micros(period, count, from)
 }
 
-/// How many periods it is from the rise `from` to the rise `to`, to the nearest number, a half up;
-/// 0 if `to` is not later. The clause `few` only keeps sums of callers in their types.
+/// The periods from one rise to another, to the nearest number, a half up; 0 if `to` is not later.
 pub fn periods_between(period: u64, from: u64, to: u64) -> u64
     requires some { 0 < period }
     requires small { (period < 2 ^ 32) × (to < 2 ^ 60) }
@@ -93,8 +83,8 @@ pub fn day_micros(time: &Time) -> u64
     MINUTE * (60 * time.hours as u64 + time.minutes as u64) + time.micros
 }
 
-/// The microseconds from the midnight before a time to `count` periods after that time. In 128
-/// bits, as the product can be above 2^64.
+/// The microseconds from a time's midnight to `count` periods after the time: this can be above
+/// 2^64.
 pub fn later_micros(period: u64, count: u64, from: &Time) -> u128
     requires small { (period < 2 ^ 25) × (count < 2 ^ 42 + 2) }
     requires times { from.now.micros < 2 ^ 59 }
@@ -103,9 +93,7 @@ pub fn later_micros(period: u64, count: u64, from: &Time) -> u128
     u128::from(day_micros(from)) + u128::from(count) * u128::from(period)
 }
 
-/// Whether the times of two frames do not fit the distance of their markers (`misfits_by`). `from`
-/// and `to` are the times, `first` and `last` the pulses of the markers. False if one of these
-/// pulses is `None`, as it is not there.
+/// Whether the times do not fit the distance of two markers; false if a marker is not there.
 pub fn misfits(
     format: Format,
     century: u32,
@@ -127,10 +115,7 @@ pub fn misfits(
     }
 }
 
-/// Whether two markers, `first` and `last`, are a whole number of periods apart
-/// (`is_whole_periods`), and the times of their frames, `from` and `to`, are not that many apart
-/// (`are_apart`). Markers at no distance, or in the wrong order, count as one period apart. False
-/// for three periods or more over midnight, which `are_apart` does not count.
+/// Whether two markers are whole periods apart, and the times are not that many apart.
 fn misfits_by(
     format: Format,
     century: u32,
@@ -153,8 +138,7 @@ fn misfits_by(
     !are_apart(century, period, count, from, to)
 }
 
-/// Whether a distance is a whole number of periods, to half an interval. 0 periods are a whole
-/// number, too. `interval` is from one rise to the next.
+/// Whether a distance is a whole number of periods, also none, to half an `interval`.
 fn is_whole_periods(period: u64, interval: u64, distance: u64) -> bool
     requires { (0 < period) × (period < 2 ^ 32) }
     ensures { result ≡ is_whole_periods period interval distance }

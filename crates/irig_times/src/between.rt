@@ -1,13 +1,4 @@
-//! What is counted between two frames, from both sides. A part is pulses in a row, as elements of
-//! one frame whose time is known; it may have no pulse. `from` and `to` are two frames that have a
-//! time, as parts, `to` the next one after `from`. A frame is believed if another one near it
-//! supports its time; one that is not is a part without pulses. Pulses are in step if each rises
-//! one interval after the one before. A pair is two parts: a first side, counted on from `from`,
-//! and a second, counted back from `to`. Each has 100 pulses in step at most, which is a frame:
-//! further on a slip of one whole interval, which leaves pulses in step, would go unseen. `missing`
-//! is what frames have to be between the two by their times. The stretch between the two is torn if
-//! intervals are lost there. `Lens` shows the pulses of a track. `century` is 20 for 2000 to 2099.
-//! Bounds in `requires`, as 2 ^ 32 and 2 ^ 59, only keep sums in their types.
+//! What is counted between two frames in a row: on from the first, and back from the second.
 
 ghost use Rattle.std.specs.Prelude.{◌≡◌, ◌≤◌, ◌<◌, ◌+◌, ◌^◌, IfSome};
 ghost use Rattle.irig_times.specs.Counted.{sides_before};
@@ -24,10 +15,8 @@ use crate::torn::{are_tens, is_torn, tenths_found};
 use irig_codes::Format;
 use irig_track::Lens;
 
-/// What is counted before a frame (`to`), as a pair. `from` is the frame before it: the pair is
-/// what `between` counts from both. If `from` is `None`, `to` is the first frame: the pair is what
-/// `counted_before` counts back from it, and an empty part. `None` if a frame is not believed, or
-/// nothing can be counted, for the reasons that these two name.
+/// What is counted before a frame (`to`), as a pair; the second part is empty if no frame is before
+/// it (`from`). `None` if a frame is not believed, or nothing can be counted.
 pub fn sides_before(
     pulses: &mut Lens<'_>,
     format: Format,
@@ -49,10 +38,8 @@ pub fn sides_before(
     }
 }
 
-/// The pair between two believed frames: of up to a hundred pulses in step with the first (`ahead`)
-/// and up to a hundred with the second (`behind`) what `sides_in` keeps. `None` if that is `None`,
-/// or if no frames are known to be missing (`missing_by`): none is, the times do not fit the
-/// distance of the markers, or they are not counted, as two frames or more over midnight.
+/// The pair between two believed frames, of up to a hundred pulses in step with each. `None` if no
+/// frames are known to be missing (`missing_by`), or `sides_in` has none.
 fn between(
     pulses: &mut Lens<'_>,
     format: Format,
@@ -76,10 +63,8 @@ fn between(
     sides_in(pulses, format, from, to, after, before, &missing)
 }
 
-/// The pair between two frames, of `after` pulses in step after the first and `before` ones before
-/// the second. If the stretch is torn (`is_torn`), each side keeps fewer (`torn_sides`); else both
-/// are kept as they are (`sides_at`). `None` if a pulse would be of both sides, or if tens of
-/// intervals are lost.
+/// The pair of `after` pulses in step after the first frame and `before` ones before the second. If
+/// the stretch is torn, each side keeps fewer (`torn_sides`).
 fn sides_in(
     pulses: &mut Lens<'_>,
     format: Format,
@@ -103,11 +88,8 @@ fn sides_in(
     }
 }
 
-/// The pair between two frames, if intervals are lost there. Of `after` pulses in step after the
-/// first and `before` ones before the second, each side keeps what is borne out: those before its
-/// last position identifier that is where it should be (`borne_out_at`). `None` if tens of
-/// intervals are lost (`are_tens`), as each identifier is then at the place of another; or if a
-/// pulse would be of both sides.
+/// The pair if intervals are lost: each side keeps what is borne out (`borne_out_at`). `None` if
+/// tens of them are lost, as each identifier is then at the place of another.
 fn torn_sides(
     pulses: &mut Lens<'_>,
     format: Format,

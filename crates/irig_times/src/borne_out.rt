@@ -1,11 +1,4 @@
-//! What a side keeps if intervals are lost somewhere in it. A side is pulses next to a frame, from
-//! the nearest on; those nearer than the loss are elements of the frame that is counted there,
-//! those farther are not. Nobody sees the loss, so a side keeps only what is borne out. Of its
-//! pulses before the first that says another element (`denies`), these are the ones nearer than the
-//! farthest position identifier that is where its frame should have one (`confirms`). `wanted` is
-//! the elements that the frame of a side should have. `most` is how many pulses of the side are
-//! looked at, the nearest ones: they are in step, and a hundred at most, which is a frame. `Lens`
-//! shows the pulses of a track. Bounds in `requires`, as 2 ^ 32, only keep sums in their types.
+//! What a side keeps if intervals are lost somewhere in it: what its position identifiers bear out.
 
 ghost use Rattle.std.specs.Prelude.{◌≡◌, ◌≤◌, ◌<◌, ◌+◌, ◌^◌};
 ghost use Rattle.irig_times.specs.Sides.{borne_out, borne_out_at, can_confirm, confirmed, undenied};
@@ -16,12 +9,11 @@ use crate::time::Time;
 use irig_codes::{Element, Format, encode, fits};
 use irig_track::Lens;
 
-/// The microseconds of a minute with a second 60.
+/// With a second 60.
 const LONG_MINUTE: u64 = 61_000_000;
 
-/// How many of the first `most` pulses of a side are borne out (`borne_out`), if its frame has this
-/// time; 0 if no frame can have it: it is past 61 seconds of its minute, or the format cannot carry
-/// it (`fits`).
+/// How many of the first `most` pulses of a side are borne out, if its frame has this time; 0 if no
+/// frame can have it.
 pub fn borne_out_at(
     pulses: &mut Lens<'_>,
     format: Format,
@@ -45,10 +37,8 @@ pub fn borne_out_at(
     borne_out(pulses, format, &wanted, side, most)
 }
 
-/// How many of the first `most` pulses of a side are kept: of those before the first that says
-/// another element (`undenied`) the ones nearer than the farthest position identifier at its place
-/// (`confirmed`); 0 if no such identifier is there. On a side that goes back the farthest of those
-/// pulses is not taken for an identifier (`can_confirm`).
+/// How many of the pulses before the first that says another element (`undenied`) are nearer than
+/// the farthest position identifier at its place (`confirmed`).
 fn borne_out(
     pulses: &mut Lens<'_>,
     format: Format,
@@ -65,8 +55,7 @@ fn borne_out(
     confirmed(pulses, format, wanted, side, can_confirm(side, count))
 }
 
-/// How many of the first `most` pulses of a side come before the first of them that says another
-/// element than `wanted` (`denies`); all `most` if none does.
+/// How many come before the first that says another element than `wanted`; all if none does.
 fn undenied(
     pulses: &mut Lens<'_>,
     format: Format,
@@ -89,9 +78,8 @@ fn undenied(
     count
 }
 
-/// How many of the first `most` pulses of a side are nearer than the farthest of them that is a
-/// position identifier at its place (`confirms`); 0 if none is. The identifier is not counted: what
-/// is lost can be within it.
+/// How many are nearer than the farthest position identifier at its place; 0 if none is. The
+/// identifier is not counted: what is lost can be within it.
 fn confirmed(
     pulses: &mut Lens<'_>,
     format: Format,
@@ -114,9 +102,8 @@ fn confirmed(
     0
 }
 
-/// How many of the first `most` pulses of a side can show a position identifier at its place: all,
-/// but on a side that goes back not the farthest. That one can be a marker, the second of two
-/// identifiers in a row: the pulse before it would show that, and is not among the `most`.
+/// On a side that goes back the farthest pulse can be a marker, the second of two identifiers in a
+/// row: the pulse before it would show that, and is not among the `most`.
 fn can_confirm(side: &Side, most: usize) -> usize
     ensures count { result ≡ can_confirm side.now most }
     ensures few { result ≤ most }

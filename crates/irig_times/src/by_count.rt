@@ -1,9 +1,4 @@
-//! The time of a microsecond by the pulses whose time is known. Pulses and elements count from 0. A
-//! part is pulses in a row, as elements of one frame whose time is known. `place_of` gives the
-//! element of a pulse and its frame's time, or `None` if the pulse is of no part. A `Lens` shows
-//! the pulses of a track, and counts how often one is looked at. Bounds in `requires`, as 2 ^ 41,
-//! only keep sums and products in their types. `AreParts` claims that parts are in order and no
-//! pulse is in two; `IsPoint`, that a pulse is this element of a frame of this time.
+//! The time of a moment by the pulses around it whose time is known.
 
 ghost use Rattle.std.specs.Prelude.{◌≡◌, ◌↔◌, ◌<◌, ◌≤◌, ◌+◌, ◌*◌, ◌^◌, ℕ, IsTrue, length, Some};
 ghost use Rattle.irig_track.specs.Looks.{LookedThrough};
@@ -20,14 +15,9 @@ use irig_track::Lens;
 /// The picoseconds of a microsecond.
 const PICOS: u64 = 1_000_000;
 
-/// The time of year `picos` picoseconds after the start of a track. `None` unless the last pulse
-/// that has risen by then and the next one have times, one interval apart: between them the time
-/// goes evenly. `find` says how many pulses have risen by a microsecond, so the number of the last
-/// of them is one less. `None` also if none has risen. Pulses rise at whole microseconds, so the
-/// whole ones of `picos` are enough for `find`.
-///
-/// It makes at most two looks more than the number of the pulses has binary digits. The years of
-/// two digits are of this `century`: 20 for 2000 to 2099.
+/// The time `picos` picoseconds after the start of a track. `None` unless the last pulse that has
+/// risen by then and the next one have times, one interval apart: between them the time goes
+/// evenly.
 pub fn time_by(
     pulses: &mut Lens<'_>,
     parts: &[Part],
@@ -60,10 +50,8 @@ pub fn time_by(
     Some(time_within(format, &place, picos - PICOS * from, to - from))
 }
 
-/// Whether the pulse after pulse `number` has the time one interval later. `place` is what
-/// `place_of` gave for pulse `number`: its element and its frame's time. The next pulse has to be
-/// the next element of the same frame or, after element 99, the first of a frame one period later
-/// (`is_later`). False if the next pulse is of no part, or is not there.
+/// Whether the pulse after pulse `number` has the time one interval later: as the next element or,
+/// after element 99, as the first of a frame one period later. `place` is that of pulse `number`.
 fn goes_on(parts: &[Part], format: Format, century: u32, number: usize, place: &Place) -> bool
     requires parts { (n : ℕ) × AreParts format 0 n parts.now }
     requires century { century ≤ 99 }
@@ -82,10 +70,8 @@ fn goes_on(parts: &[Part], format: Format, century: u32, number: usize, place: &
     }
 }
 
-/// The time `picos` picoseconds after the rise of an element (`place`) and before the next rise,
-/// which was recorded `span` microseconds after that of the element. The share of the recorded
-/// interval that is over is taken of the format's nominal interval (`share`), so a clock that is
-/// slow or fast does no harm.
+/// The time `picos` picoseconds after an element's rise, `span` microseconds before the next one.
+/// The recorded share is taken of the nominal interval, so a slow or fast clock does no harm.
 fn time_within(format: Format, place: &Place, picos: u64, span: u64) -> Time
     requires order { picos < 1000000 * span }
     requires small { span ≤ 2 ^ 41 }
@@ -99,11 +85,8 @@ fn time_within(format: Format, place: &Place, picos: u64, span: u64) -> Time
     later_by(&place.time, place.element as u64 * interval + over)
 }
 
-/// How many microseconds of a nominal interval are over, if `micros` microseconds and `picos`
-/// picoseconds of the recorded one are, which is `span` microseconds long. Rounded down.
-/// `interval` is the nominal one, 100,000 microseconds at most (in E). `micros` and `picos` are
-/// multiplied with it one by one, as one product in picoseconds could overflow. What the inner
-/// division drops is less than 1, so the result, rounded down, is the same.
+/// The share of the nominal `interval` that is over after `micros` and `picos` of `span`, rounded
+/// down. They are multiplied one by one, as one product in picoseconds could overflow.
 fn share(interval: u64, micros: u64, picos: u64, span: u64) -> u64
     requires interval { interval ≤ 100000 }
     requires picos { picos < 1000000 }
@@ -114,8 +97,7 @@ fn share(interval: u64, micros: u64, picos: u64, span: u64) -> u64
     (micros * interval + picos * interval / PICOS) / span
 }
 
-/// The time `micros` microseconds after `time`, that of a frame. Nothing is carried to the minute:
-/// a frame ends with its minute at the latest.
+/// Nothing is carried to the minute: a frame ends with its minute at the latest.
 fn later_by(time: &Time, micros: u64) -> Time
     requires small { micros < 2 ^ 53 }
     requires minute { time.now.micros < 2 ^ 53 }

@@ -1,13 +1,4 @@
-//! All pulses of a track that have a time. A part is pulses in a row, as elements of one frame
-//! whose time is known. A frame that has a time and is not believed is a part without pulses. A
-//! frame is believed if another one near it supports its time. Pulses next to it are counted if
-//! they are in step with it: as elements of the frame before it or after it. A pair of parts
-//! (`sides`) is what is counted on from a frame and what is counted back from the next; at an end
-//! of the track, what is counted there and an empty part. The time jumps between two frames if a
-//! clock was set there or intervals were lost, and at an end if pulses there say another time.
-//! `Lens` shows the pulses of a track, and `FrameLens` its frames, each by a record. `century` is
-//! that of years of two digits: 20 for 2000 to 2099. An error says that memory ran out. Bounds in
-//! `requires`, as 2 ^ 30 and 2 ^ 59, only keep sums in their types.
+//! All pulses of a track that have a time: those of believed frames, and those counted around them.
 
 ghost use Rattle.std.specs.Prelude.{[], ◌≡◌, ◌≤◌, ◌<◌, ◌++◌, ◌∷◌, IfOk, None, OnOk, Some, length};
 ghost use Rattle.irig_index.specs.Frames.{frames};
@@ -27,11 +18,8 @@ use irig_codes::Format;
 use irig_track::Lens;
 use std::alloc::{AllocError, Global};
 
-/// All pulses of a track that have a time, as parts in order. Some parts can be empty, as that of a
-/// frame that is not believed. `held` says of each record, which is a frame of the track, whether
-/// it is believed. Fails only if memory runs out.
-///
-/// The years of two digits are of this `century`: 20 for 2000 to 2099.
+/// All pulses of a track that have a time, as parts in order, some of them empty. `held` says of
+/// each record whether its frame is believed.
 pub fn timed_parts(
     alloc: Global,
     pulses: &mut Lens<'_>,
@@ -52,9 +40,7 @@ pub fn timed_parts(
     counted_parts(alloc, pulses, &whole, format, century)
 }
 
-/// The parts of all frames that have a time (`whole`), and what is counted around them, in order:
-/// for each frame what `add_frame` adds, and after the last one what `counted_after` counts there.
-/// The part of a frame that is not believed is empty.
+/// The parts of all frames (`whole`), and what is counted before, between and after them, in order.
 fn counted_parts(
     alloc: Global,
     pulses: &mut Lens<'_>,
@@ -68,7 +54,7 @@ fn counted_parts(
         ≡ filled format century pulses.old.track.micros pulses.old.track.pulses None whole.now) }
     ensures pulses { pulses.new.track ≡ pulses.old.track }
 {
-    // For the proof alone: the call promises how many pulses there can be.
+    // For the proof alone: a bound.
     let _count = pulses.len();
     let mut list = Vec::new(alloc);
     let mut before = None;
@@ -83,7 +69,6 @@ fn counted_parts(
     Ok(list)
 }
 
-/// The part at a place, from 0; `None` if there is none.
 fn part_at(parts: &[Part], place: usize) -> Option<Part>
     ensures { result ≡ slice_get parts.now place }
 {
@@ -94,12 +79,9 @@ fn part_at(parts: &[Part], place: usize) -> Option<Part>
     }
 }
 
-/// Adds to a list what is counted before a frame (`part`): two parts, or none
-/// (`sides_unless_jump`). Then adds the frame with what it keeps of its own pulses. If the time
-/// jumps before the frame (`is_jump_between`), nothing is counted there, and the frame does not
-/// keep the elements that carry its time (`after_jump`). By what comes after the frame it can keep
-/// fewer, too (`kept_of_own`). `before` and `next` are the frames before and after it, `None` if
-/// there is none. If memory runs out, the list can have some of this.
+/// Adds what is counted before a frame (`part`), and the frame with what it keeps of its own;
+/// `before` and `next` are the frames around it. If memory runs out, the list can have some of
+/// this.
 fn add_frame(
     list: &mut Vec<Part>,
     pulses: &mut Lens<'_>,
@@ -129,10 +111,8 @@ fn add_frame(
     Ok(())
 }
 
-/// What a frame (`part`) keeps of its own pulses by what comes after it. If the time jumps there,
-/// at most its marker, its first pulse (`before_jump`). If tens of intervals are lost there, those
-/// that are surely its own (`up_to_loss`). Else all; a frame that is not believed has none. `next`
-/// is the frame after it, `None` if it is the last.
+/// What a frame keeps of its own pulses: at most its marker if the time jumps after it, those that
+/// are surely its own if tens of intervals are lost there, else all.
 fn kept_of_own(
     pulses: &mut Lens<'_>,
     format: Format,
@@ -153,9 +133,7 @@ fn kept_of_own(
     before_jump(jumps, up_to_loss(pulses, format, part, next))
 }
 
-/// What is counted before a frame (`part`), as `sides_before` returns it. `None` if the caller
-/// found that the time `jumps` there, if a frame is not believed, or if nothing can be counted.
-/// `before` is the frame before it, `None` if it is the first.
+/// What is counted before a frame (`part`); `None` if the time `jumps` there.
 fn sides_unless_jump(
     pulses: &mut Lens<'_>,
     format: Format,
@@ -179,8 +157,7 @@ fn sides_unless_jump(
     }
 }
 
-/// Adds the two parts of a pair to a list; does nothing without a pair. If memory runs out, the
-/// list can have the first part alone.
+/// If memory runs out, the list can have the first part alone.
 fn add_sides(list: &mut Vec<Part>, sides: Option<(Part, Part)>) -> Result<(), AllocError>
     ensures { OnOk result (list.new.items ≡ list.old.items ++ with_sides sides []) }
 {

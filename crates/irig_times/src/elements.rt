@@ -1,9 +1,4 @@
-//! Which elements a frame of a given time has, and whether a pulse says another one. A frame has
-//! 100 elements, from 0: each is a 0, a 1 or a position identifier. A pulse says its element by its
-//! width, from its rise to its fall: the class of the width is one of these three, or none. A pulse
-//! falls after it rises, so no width is cut to 0. `wanted` is the elements that a frame should
-//! have. `Lens` shows the pulses of a track. Bounds in `requires`, as 2 ^ 32, only keep numbers in
-//! their types.
+//! Which elements a frame of a given time has, and whether a pulse says another one by its width.
 
 ghost use Rattle.std.specs.Prelude.{◌≡◌, ◌<◌, ◌^◌, slice_get};
 ghost use Rattle.irig_codes.specs.Fields.{part};
@@ -16,8 +11,7 @@ use irig_codes::{Element, Fields, Format, Kind, class};
 use irig_track::Lens;
 
 /// How many elements, from element 0 on, carry the day, the hour, the minute, the second and its
-/// tenths and hundredths, as the standard places them. The last of these is element 41 (days) in B
-/// and E, 48 (tenths) in A, and 53 (hundredths) in G. The year comes after them.
+/// fractions: up to element 41 (days) in B and E, 48 (tenths) in A, and 53 (hundredths) in G.
 pub fn time_elements(format: Format) -> usize
     ensures { result ≡ time_elements format.kind }
 {
@@ -29,10 +23,8 @@ pub fn time_elements(format: Format) -> usize
     }
 }
 
-/// The fields that a frame of this time has. Hundredths are there if the format has them, rounded
-/// down. The year is the time's own; callers test whether the format can carry it (`fits`). Control
-/// functions and straight binary seconds (`sbs`) are no part of a time: 0 if the format has them,
-/// else `None`.
+/// The fields of a frame of this time, with hundredths rounded down. Control functions and straight
+/// binary seconds are no part of a time: 0 if the format has them.
 pub fn fields_at(format: Format, time: &Time) -> Fields
     requires { time.now.micros < 2 ^ 32 }
     ensures { result ≡ fields_at format time.now }
@@ -49,17 +41,14 @@ pub fn fields_at(format: Format, time: &Time) -> Fields
     }
 }
 
-/// The value, if `there` is true; else `None`.
 fn some_if(there: bool, value: u32) -> Option<u32>
     ensures { result ≡ part there value }
 {
     if there { Some(value) } else { None }
 }
 
-/// Whether pulse `number` of the track, from 0, says another element than `wanted` has at
-/// `element`. Only the elements that carry the time (`time_elements`) and the position identifiers
-/// in `wanted` are compared, as nobody knows what control functions a frame has. False if the pulse
-/// is not there, or its width is of no class.
+/// Whether pulse `number` of the track says another element than `wanted` has. Only elements of the
+/// time and position identifiers are compared: nobody knows the control functions of a frame.
 pub fn contradicts(
     pulses: &mut Lens<'_>,
     format: Format,
@@ -84,8 +73,7 @@ pub fn contradicts(
     }
 }
 
-/// Whether a class is there and is not the wanted element. False for a width of no class (`None`),
-/// which says nothing.
+/// False for a width of no class (`None`), which says nothing.
 fn is_other(class: Option<Element>, wanted: Element) -> bool
     ensures { result ≡ is_other class wanted }
 {

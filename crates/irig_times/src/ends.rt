@@ -1,12 +1,5 @@
-//! The pulses at the two ends of a track that have a time: those after its last frame, and those
-//! before its first one. A part is pulses in a row, as elements of one frame whose time is known. A
-//! frame is believed if another one near it supports its time; one that is not is a part without
-//! pulses. Pulses are in step if each rises one interval after the one before. At each end a
-//! hundred pulses in step are counted at most, which is a frame: further on a slip of one whole
-//! interval, which leaves pulses in step, would go unseen. A pulse says an element by its width.
-//! `wanted` is the elements that a frame should have. Pulses and elements count from 0. `Lens`
-//! shows the pulses of a track. A pair of parts is returned, as between two frames: what is
-//! counted, and an empty part. Bounds as 2 ^ 30 and 2 ^ 59 only keep sums in their types.
+//! The pulses that have a time at the two ends of a track: after its last frame, and before its
+//! first.
 
 ghost use Rattle.std.specs.Prelude.{◌≡◌, ◌≤◌, ◌<◌, ◌+◌, ◌-◌, ◌^◌, IfSome, length, min};
 ghost use Rattle.std.specs.Prelude.{if◌then◌else◌};
@@ -22,10 +15,8 @@ use crate::steps::{ahead, behind};
 use irig_codes::{Element, Format, encode, fits};
 use irig_track::Lens;
 
-/// What is counted after the last frame (`from`), and an empty part: up to a hundred pulses in step
-/// (`ahead`), or none, as the first elements of a frame one period later. `None` if the last frame
-/// is not there or is not believed; if it ends the day or shows a second 60, since nothing is
-/// counted over those (`next_time`); or if the pulses cannot have that time (`is_borne_out`).
+/// What is counted after the last frame (`from`), and an empty part. `None` if it is not believed,
+/// ends the day or shows a second 60 (`next_time`), or if the pulses cannot have that time.
 pub fn end_after(pulses: &mut Lens<'_>, format: Format, from: Option<Part>) -> Option<(Part, Part)>
     requires { IfSome from (λ a. (a.time.micros < 2 ^ 59) × (a.number + a.count < 2 ^ 30)) }
     ensures end { result ≡ end_after format pulses.old.track.pulses from }
@@ -45,10 +36,8 @@ pub fn end_after(pulses: &mut Lens<'_>, format: Format, from: Option<Part>) -> O
     possible_pair(pulses, format, head_of(&from, count, time))
 }
 
-/// What is counted before the first frame (`to`), and an empty part: up to a hundred pulses in step
-/// (`behind`), or none, as the last elements of a frame one period earlier. `None` if the first
-/// frame is not believed; if it begins the day, since nothing is counted over midnight
-/// (`time_before`); or if the pulses cannot have that time (`is_borne_out`).
+/// What is counted before the first frame (`to`), and an empty part. `None` if it is not believed
+/// or begins the day (`time_before`), or if the pulses cannot have the earlier time.
 pub fn end_before(pulses: &mut Lens<'_>, format: Format, to: &Part) -> Option<(Part, Part)>
     requires { (to.now.time.micros < 2 ^ 59) × (to.now.number < 2 ^ 30) }
     ensures end { result ≡ end_before format pulses.old.track.pulses to.now }
@@ -65,9 +54,7 @@ pub fn end_before(pulses: &mut Lens<'_>, format: Format, to: &Part) -> Option<(P
     possible_pair(pulses, format, tail_of(to, count, time))
 }
 
-/// The pair of a part and an empty one after it; `None` if the part cannot have its time
-/// (`is_borne_out`). Between two frames there are two parts, one counted from each frame; at an end
-/// of the recording there is one, and the empty one takes the place of the other.
+/// The part and an empty one, as between two frames; `None` if the part cannot have its time.
 fn possible_pair(pulses: &mut Lens<'_>, format: Format, part: Part) -> Option<(Part, Part)>
     requires few { part.element + part.count ≤ 100 }
     requires small { (part.number < 2 ^ 31) × (part.time.micros < 2 ^ 60) }
@@ -82,11 +69,8 @@ fn possible_pair(pulses: &mut Lens<'_>, format: Format, part: Part) -> Option<(P
     }
 }
 
-/// Whether a part can have its time: a frame of that time ends with its minute (`ends_in_minute`),
-/// the format can carry that time (`fits`), and no pulse of the part says another one. A single
-/// pulse that does is enough to refuse it, as a clock that is set by an hour can change just one
-/// element. The last pulse of the track is not compared (`uncut_pulses`). A part without pulses has
-/// none that says another time.
+/// Whether a part can have its time: the format can carry it, and no pulse says another one. A
+/// single pulse is enough to refuse it, as a clock set by an hour can change just one element.
 fn is_borne_out(pulses: &mut Lens<'_>, format: Format, part: &Part) -> bool
     requires few { part.now.element + part.now.count ≤ 100 }
     requires small { (part.now.number < 2 ^ 32) × (part.now.time.micros < 2 ^ 60) }
@@ -105,8 +89,7 @@ fn is_borne_out(pulses: &mut Lens<'_>, format: Format, part: &Part) -> bool
     contradictions(pulses, format, &wanted, part, uncut) == 0
 }
 
-/// How many of the first `uncut` pulses of a part say another element than the frame of the part
-/// should have (`contradicts`).
+/// How many of the first `uncut` pulses of a part say another element than `wanted`.
 fn contradictions(
     pulses: &mut Lens<'_>,
     format: Format,
@@ -134,7 +117,6 @@ fn contradictions(
     count
 }
 
-/// The count plus 1 if `is_so`, else the count.
 fn more(count: usize, is_so: bool) -> usize
     requires { count < 2 ^ 32 }
     ensures { result ≡ (if is_so then count + 1 else count) }
@@ -142,8 +124,7 @@ fn more(count: usize, is_so: bool) -> usize
     if is_so { count + 1 } else { count }
 }
 
-/// How many pulses of a part have a width that the end of the recording cannot have cut: all, but
-/// for the last pulse of the track.
+/// How many pulses of a part have a width that the end of the recording cannot have cut.
 pub fn uncut_pulses(pulses: &Lens<'_>, part: &Part) -> usize
     requires small { (part.now.number < 2 ^ 32) × (part.now.count ≤ 100) }
     ensures few { result ≤ part.now.count }

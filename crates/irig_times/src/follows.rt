@@ -1,8 +1,5 @@
-//! Which time is one frame period after another. A time is a minute of the year, and the
-//! microseconds since it began (`micros`). Of two times `from` is the first and `to` the second.
-//! Periods and the lengths of minutes are in microseconds. Years are of two digits, or unknown;
-//! `century` is 20 for 2000 to 2099. Days are from 1, hours 0 to 23, minutes 0 to 59. Bounds in
-//! `requires`, as 2 ^ 60, only keep sums in their types.
+//! Which time is one frame period after another: of two times `from` is the first and `to` the
+//! second.
 
 ghost use Rattle.std.specs.Prelude.{◌≡◌, ◌+◌, ◌*◌, ◌%◌, ◌≤◌, ◌<◌, ◌^◌, pos};
 ghost use Rattle.jiff_core.specs.Calendar.{days_in_year};
@@ -14,13 +11,12 @@ ghost use Rattle.irig_times.specs.Follows.{is_later_in, is_later};
 use crate::time::Time;
 use jiff_core::civil::days_in_year;
 
-/// The microseconds of a minute without a second 60.
+/// In microseconds.
 const MINUTE: u64 = 60_000_000;
 
-/// The microseconds of a minute with a second 60.
+/// With a second 60.
 const LONG_MINUTE: u64 = 61_000_000;
 
-/// Whether two years are the same, or both are unknown.
 fn same_year(year: Option<u32>, other: Option<u32>) -> bool
     ensures { result ≡ same_year year other }
 {
@@ -32,7 +28,7 @@ fn same_year(year: Option<u32>, other: Option<u32>) -> bool
     }
 }
 
-/// The year after a year of two digits, which is 0 after 99; `None` if the year is unknown.
+/// A year of two digits: after 99 comes 0.
 fn next_year(year: Option<u32>) -> Option<u32>
     ensures { result ≡ next_year year }
 {
@@ -42,38 +38,34 @@ fn next_year(year: Option<u32>) -> Option<u32>
     }
 }
 
-/// Whether two times are on the same day of the same year. Two unknown years count as the same.
+/// Whether two times are on the same day of the same year. Two unknown years are the same.
 pub fn same_day(one: &Time, other: &Time) -> bool
     ensures { result ≡ same_day one.now other.now }
 {
     same_year(one.year, other.year) && one.days == other.days
 }
 
-/// Whether two times are in the same hour of the same day (`same_day`).
 fn same_hour(one: &Time, other: &Time) -> bool
     ensures { result ≡ same_hour one.now other.now }
 {
     same_day(one, other) && one.hours == other.hours
 }
 
-/// Whether two times are in the same minute of the same hour (`same_hour`).
 fn same_minute(one: &Time, other: &Time) -> bool
     ensures { result ≡ same_minute one.now other.now }
 {
     same_hour(one, other) && one.minutes == other.minutes
 }
 
-/// Whether two times are the same: in the same minute, and as many microseconds after it began.
+/// Whether two times are the same, to the microsecond.
 pub fn same_time(one: &Time, other: &Time) -> bool
     ensures { result ≡ same_time one.now other.now }
 {
     same_minute(one, other) && one.micros == other.micros
 }
 
-/// Whether the second time is on the day after that of the first, if the first one's year has
-/// `count` days. Before day `count` that is the next day of the same year; after day `count` it is
-/// day 1 of the next year. False if the first time is on a later day than `count`, as day 366 of a
-/// year of 365 days.
+/// Whether the second time is on the next day, if the first one's year has `count` days. False if
+/// the first day is later than that, as day 366 of 365.
 fn is_day_after(count: u32, from: &Time, to: &Time) -> bool
     ensures { result ≡ is_day_after count from.now to.now }
 {
@@ -84,9 +76,7 @@ fn is_day_after(count: u32, from: &Time, to: &Time) -> bool
     }
 }
 
-/// Whether the second time is on the day after that of the first. The length of the first one's
-/// year decides which day that is. If the year is unknown, 365 and 366 days are both tried, and one
-/// is enough.
+/// If the year is unknown, 365 and 366 days are both tried, and one is enough.
 fn day_follows(century: u32, from: &Time, to: &Time) -> bool
     requires { century ≤ 99 }
     ensures { result ≡ day_follows century from.now.year from.now to.now }
@@ -97,8 +87,7 @@ fn day_follows(century: u32, from: &Time, to: &Time) -> bool
     }
 }
 
-/// How many days a year of two digits has in a century: 365 or 366. Of a larger `year` the last two
-/// digits count. With its century it is 9999 at most, so it fits an `i16`.
+/// Only the last two digits of `year` count, so with its century it is 9999 at most: an `i16`.
 fn year_length(century: u32, year: u32) -> u32
     requires { century ≤ 99 }
     ensures { result ≡ days_in_year (pos (100 * century + year % 100)) }
@@ -106,8 +95,7 @@ fn year_length(century: u32, year: u32) -> u32
     days_in_year((100 * century + year % 100) as i16) as u32
 }
 
-/// Whether the second time is in the hour after that of the first: the next one of the same day,
-/// or after hour 23 hour 0 of the next day.
+/// After hour 23 comes hour 0 of the next day.
 fn hour_follows(century: u32, from: &Time, to: &Time) -> bool
     requires { century ≤ 99 }
     ensures { result ≡ hour_follows century from.now to.now }
@@ -119,8 +107,6 @@ fn hour_follows(century: u32, from: &Time, to: &Time) -> bool
     }
 }
 
-/// Whether the second time is in the minute after that of the first: the next one of the same hour,
-/// or after minute 59 minute 0 of the next hour.
 fn minute_follows(century: u32, from: &Time, to: &Time) -> bool
     requires { century ≤ 99 }
     ensures { result ≡ minute_follows century from.now to.now }
@@ -132,10 +118,8 @@ fn minute_follows(century: u32, from: &Time, to: &Time) -> bool
     }
 }
 
-/// Whether the second time is one frame period after the first, if the first one's minute is
-/// `length` microseconds long. If one period later is still in that minute, the second time has to
-/// be there; else in the next minute, which begins when `length` is over. False if the first time
-/// is not within `length`, as second 60 in a minute of 60 seconds.
+/// Whether the second time is one period later, if the first one's minute lasts `length`
+/// microseconds. False if the first time is past that, as second 60 in a minute of 60 seconds.
 fn is_later_in(length: u64, century: u32, period: u64, from: &Time, to: &Time) -> bool
     requires century { century ≤ 99 }
     requires small { (length < 2 ^ 32) × (period < 2 ^ 32) }
@@ -153,9 +137,8 @@ fn is_later_in(length: u64, century: u32, period: u64, from: &Time, to: &Time) -
     }
 }
 
-/// Whether the second time is one frame period after the first (`is_later_in`). The first one's
-/// minute may have 60 seconds or 61, and one of the two is enough: each minute may have a second
-/// 60, a leap second, since the time zone is not known.
+/// Whether the second time is one frame period after the first. Each minute may have a second 60, a
+/// leap second, since the time zone is not known.
 pub fn is_later(century: u32, period: u64, from: &Time, to: &Time) -> bool
     requires century { century ≤ 99 }
     requires small { period < 2 ^ 32 }

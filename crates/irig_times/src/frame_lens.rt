@@ -1,7 +1,4 @@
-//! An index that counts the looks at its records. A record is a frame of the track, and its marker
-//! is the number of its first pulse, from 0. Records are in the order of their markers
-//! (`MarkersRise`). `counted` adds looks to a count, up to 2^64 - 1; `LookedAtFrames` claims how
-//! many were added at most.
+//! An index that counts the looks at its records.
 
 ghost use Rattle.std.specs.Prelude.{◌≡◌, ◌<◌, ◌≤◌, ◌^◌, ℕ, length, slice_get, Some};
 ghost use Rattle.irig_track.specs.Looks.{counted};
@@ -10,10 +7,8 @@ ghost use Rattle.irig_times.specs.FrameLooks.{LookedAtFrames, MarkersRise, Parte
 use irig_index::{Index, Record};
 use std::marker::Model;
 
-/// Shows the frames of a track, and counts how often a record was looked at.
-///
-/// Who is handed a lens reaches the records through `record` and `find` alone, so its looks bound
-/// its work.
+/// Shows the frames of a track, and counts how often a record was looked at. Only `record` and
+/// `find` reach the records, so the looks bound the work.
 #[derive(Drop)]
 pub struct FrameLens<'a> {
     index: &'a Index,
@@ -31,7 +26,7 @@ impl<'a> Model for FrameLens<'a> {
 }
 
 impl<'a> FrameLens<'a> {
-    /// A lens on the frames of an index, which has counted no look.
+    /// A lens that has counted no look.
     pub fn new(index: &'a Index) -> FrameLens<'a>
         ensures { result ≡ frames_view index.now.records 0 }
     {
@@ -48,7 +43,7 @@ impl<'a> FrameLens<'a> {
         self.index.len()
     }
 
-    /// The record at place `k`, from 0. It is counted as a look, unless the count is at 2^64 - 1.
+    /// The record at place `k`, from 0, counted as a look.
     pub fn record(&mut self, k: usize) -> Record
         requires { k < length self.old.records }
         ensures value { slice_get self.old.records k ≡ Some result }
@@ -58,9 +53,7 @@ impl<'a> FrameLens<'a> {
         self.index.record(k)
     }
 
-    /// How many records have a marker that is the pulse `number`, from 0, or one before it. It
-    /// halves the records that are left at each look, so it makes at most as many looks as the
-    /// number of the records has binary digits.
+    /// How many records have a marker up to the pulse `number`, from 0.
     pub fn find(&mut self, number: usize) -> usize
         requires { MarkersRise self.old.records }
         ensures parted { PartedAt self.old.records number result }

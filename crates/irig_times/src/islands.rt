@@ -1,9 +1,4 @@
-//! Which frames are on an island: wrong alike, between frames that agree. Two frames agree if they
-//! are near enough for their distance to say how many periods it is, and their times are as many
-//! apart. A shore is a frame next to the island that does not agree with it. `Three` is a frame on
-//! one side of another, before it or after it, and the two that are next farther away on that side,
-//! in this order; each is `None` if there is no such frame. What a frame shows (`Shown`) is its
-//! fields and when its marker rises. Only frames that have a time count.
+//! Which frames are on an island: wrong alike, between frames that agree.
 
 ghost use Rattle.std.specs.Prelude.{◌≡◌, ◌&&◌, List};
 ghost use Rattle.irig_safety.specs.declared.shown.Shown.{Shown};
@@ -15,13 +10,9 @@ use crate::nearest::{Nearest, Three};
 use irig_codes::Format;
 use irig_safety::{Shown, agrees};
 
-/// Whether a frame is on an island: it is between two shores that agree with each other
-/// (`is_between`), and with it at most two other frames are. `before` and `after` are the five
-/// nearest frames on each side. The shore on a side can be the first, the second or the third of
-/// these (`from_first`, `from_second`, `from_third`); each frame that is nearer is on the island,
-/// too. So the first line below is for an island of this frame alone, the next two for islands of
-/// two frames, and the last three for islands of three. A longer run is no island: a clock that was
-/// set, and set again later, looks like that.
+/// Whether a frame is on an island of at most three frames. `before` and `after` are the five
+/// nearest on each side, of which the first, the second or the third can be the shore. A longer run
+/// is no island: a clock that was set, and set again later, looks like that.
 pub fn is_on_island(format: Format, before: &Nearest, frame: &Shown, after: &Nearest) -> bool
     ensures { (left : List Shown) (right : List Shown) → before.now ≡ nearest left
         → after.now ≡ nearest right → result ≡ is_on_island format left frame.now right }
@@ -34,8 +25,7 @@ pub fn is_on_island(format: Format, before: &Nearest, frame: &Shown, after: &Nea
         || is_between(format, before.from_third(), frame, after.from_first())
 }
 
-/// Whether the first of `before` and the first of `after` are shores of a frame (`is_shore_before`,
-/// `is_shore_after`), and agree with each other. False if one of the two is not there.
+/// Whether the first of each three is a shore of the frame, and these two agree with each other.
 fn is_between(format: Format, before: Three, frame: &Shown, after: Three) -> bool
     ensures { result ≡ (is_shore_before format before.2 before.1 before.0 frame.now
         && (is_shore_after format frame.now after.0 after.1 after.2
@@ -46,10 +36,9 @@ fn is_between(format: Format, before: Three, frame: &Shown, after: Three) -> boo
         && agree(format, before.0, after.0)
 }
 
-/// Whether the first of three frames before a frame is a shore. It has to be there, and must not
-/// agree with the frame. The second or the third has to agree with the first, so that no single
-/// wrong frame is a shore. If the second is `None`, so is the third, and the first needs no
-/// support.
+/// Whether the first of three frames before a frame is a shore: it does not agree with the frame,
+/// and the second or the third agrees with it, so that no single wrong frame is a shore. It needs
+/// no support if there is no second.
 pub fn is_shore_before(format: Format, before: Three, frame: &Shown) -> bool
     ensures { result ≡ is_shore_before format before.2 before.1 before.0 frame.now }
 {
@@ -64,10 +53,7 @@ pub fn is_shore_before(format: Format, before: Three, frame: &Shown) -> bool
     }
 }
 
-/// Whether the first of three frames after a frame is a shore. It has to be there, and must not
-/// agree with the frame. The second or the third has to agree with the first, so that no single
-/// wrong frame is a shore. If the second is `None`, so is the third, and the first needs no
-/// support.
+/// Whether the first of three frames after a frame is a shore, as in `is_shore_before`.
 fn is_shore_after(format: Format, frame: &Shown, after: Three) -> bool
     ensures { result ≡ is_shore_after format frame.now after.0 after.1 after.2 }
 {
@@ -82,7 +68,6 @@ fn is_shore_after(format: Format, frame: &Shown, after: Three) -> bool
     }
 }
 
-/// Whether two frames are there, `before` the earlier, and agree. False if one is `None`.
 fn agree(format: Format, before: Option<Shown>, after: Option<Shown>) -> bool
     ensures { result ≡ agree format before after }
 {

@@ -1,11 +1,4 @@
-//! Where the time jumps between two frames: a clock was set, or intervals were lost. At an end of
-//! the track it jumps if pulses there say another time than the one that follows from the frame
-//! next to them. Two pulses are in step if the second rises one interval after the first. A part is
-//! pulses in a row, as elements of one frame whose time is known. `from` and `to` are frames that
-//! have a time, as parts, `to` the next one after `from`. A frame is believed if another one near
-//! it supports its time; one that is not is a part without pulses. A frame's marker is its first
-//! pulse. A period is how long a frame lasts, in microseconds. `Lens` shows the pulses of a track.
-//! `century` is 20 for 2000 to 2099. Bounds as 2 ^ 30 and 2 ^ 59 only keep sums in their types.
+//! Where the time jumps between two frames, or at an end of the track.
 
 ghost use Rattle.std.specs.Prelude.{◌≡◌, ◌≤◌, ◌<◌, ◌+◌, ◌^◌, IfSome, MatchOption};
 ghost use Rattle.irig_times.specs.AtJumps.{after_jump, before_jump, is_denied_after};
@@ -23,12 +16,10 @@ use crate::steps::{all_follow, pulse_at};
 use irig_codes::Format;
 use irig_track::Lens;
 
-/// The pulses of a frame.
 const FRAME_PULSES: usize = 100;
 
-/// Whether the time jumps between two frames (`is_jump`). If `to` is `None`, `from` is the last
-/// frame: whether the time jumps after it (`is_denied_after`). If `from` is `None`, `to` is the
-/// first: whether it jumps before it (`is_denied_before`). False if both are `None`.
+/// Whether the time jumps between two frames; after the last one if `to` is `None`, before the
+/// first one if `from` is.
 pub fn is_jump_between(
     pulses: &mut Lens<'_>,
     format: Format,
@@ -51,11 +42,9 @@ pub fn is_jump_between(
     }
 }
 
-/// Whether the time jumps between two frames. It does not if their times fit the count of pulses
-/// between them (`runs_on`). If they do not fit, it jumps in two cases. First, all pulses from the
-/// one to the other are in step (`are_joined`), so none is lost: this is also so for three periods
-/// or more over midnight, which `runs_on` does not count. Second, the markers are whole periods
-/// apart, and the times are not that many apart (`misfits`).
+/// Whether the time does not run on by the count of pulses, and one of two facts shows a jump: all
+/// pulses are in step, so none is lost, or the markers are whole periods apart and the times are
+/// not.
 fn is_jump(pulses: &mut Lens<'_>, format: Format, century: u32, from: &Part, to: &Part) -> bool
     requires century { century ≤ 99 }
     requires times { (from.now.time.micros < 2 ^ 59) × (to.now.time.micros < 2 ^ 59) }
@@ -75,10 +64,8 @@ fn is_jump(pulses: &mut Lens<'_>, format: Format, century: u32, from: &Part, to:
     misfits(format, century, &from.time, &to.time, first, last)
 }
 
-/// Whether the time runs on by the count of pulses. Between the two frames there must be whole
-/// hundreds of pulses, which are whole frames, and the second time must be one period later, and
-/// one more for each of those frames. False if `missing_in` does not count the frames, as over
-/// midnight for three periods or more.
+/// Whether whole frames of pulses are between the two, and the times are that many periods apart.
+/// False if `missing_in` does not count the frames, as over midnight for three periods or more.
 fn runs_on(format: Format, century: u32, from: &Part, to: &Part) -> bool
     requires century { century ≤ 99 }
     requires times { (from.now.time.micros < 2 ^ 59) × (to.now.time.micros < 2 ^ 59) }
@@ -98,9 +85,7 @@ fn runs_on(format: Format, century: u32, from: &Part, to: &Part) -> bool
     missing_in(century, period, count, &from.time, &to.time).is_some()
 }
 
-/// Whether each pulse after the hundred of the first frame is in step with the one before it, up to
-/// the marker of the second and with it. If the frames overlap, only the pulse after the hundred is
-/// tested.
+/// Whether all pulses after the first frame are in step, the marker of the second included.
 fn are_joined(pulses: &mut Lens<'_>, format: Format, from: &Part, to: &Part) -> bool
     requires order { from.now.number + from.now.count ≤ to.now.number }
     requires small { to.now.number < 2 ^ 30 }
@@ -111,8 +96,7 @@ fn are_joined(pulses: &mut Lens<'_>, format: Format, from: &Part, to: &Part) -> 
     all_follow(pulses, format, from.number + FRAME_PULSES, many + 1)
 }
 
-/// How many pulses are between two frames, of which each has a hundred, believed or not. 0 if the
-/// second begins within the hundred of the first.
+/// How many pulses are between two frames of a hundred pulses, believed or not; 0 if they overlap.
 fn pulses_between(from: &Part, to: &Part) -> usize
     requires small { from.now.number < 2 ^ 30 }
     ensures { result ≡ pulses_between from.now to.now }
@@ -120,10 +104,8 @@ fn pulses_between(from: &Part, to: &Part) -> usize
     to.number.saturating_sub(from.number + FRAME_PULSES)
 }
 
-/// Whether the last frame (`from`) is believed, there is a time one period later on its day
-/// (`next_time`), and yet the pulses after it cannot have that time (`end_after` is `None`). Then
-/// they say another time, or no frame can have that one. Without a pulse in step there, it is false
-/// if a frame can have that time.
+/// Whether the last frame (`from`) is believed, a time one period later is on its day, and yet the
+/// pulses after it cannot have that time.
 fn is_denied_after(pulses: &mut Lens<'_>, format: Format, from: &Part) -> bool
     requires small { (from.now.time.micros < 2 ^ 59) × (from.now.number + from.now.count < 2 ^ 30) }
     ensures denied { result ≡ is_denied_after format pulses.old.track.pulses from.now }
@@ -134,10 +116,7 @@ fn is_denied_after(pulses: &mut Lens<'_>, format: Format, from: &Part) -> bool
         && end_after(pulses, format, Some(*from)).is_none()
 }
 
-/// Whether the first frame (`to`) is believed, there is a time one period earlier on its day
-/// (`time_before`), and yet the pulses before it cannot have that time (`end_before` is `None`).
-/// Then they say another time, or no frame can have that one. Without a pulse in step there, it is
-/// false if a frame can have that time.
+/// Whether the pulses before the first frame (`to`) are denied in the same way, one period earlier.
 fn is_denied_before(pulses: &mut Lens<'_>, format: Format, to: &Part) -> bool
     requires small { (to.now.time.micros < 2 ^ 59) × (to.now.number < 2 ^ 30) }
     ensures denied { result ≡ is_denied_before format pulses.old.track.pulses to.now }
@@ -148,9 +127,7 @@ fn is_denied_before(pulses: &mut Lens<'_>, format: Format, to: &Part) -> bool
         && end_before(pulses, format, to).is_none()
 }
 
-/// What a frame keeps of its pulses if the time jumps after it, as the caller found (`jumps`): at
-/// most its marker, since nobody knows at which element the time jumps. All if the time does not
-/// jump.
+/// Keeps at most the marker if the time `jumps` after the frame: nobody knows at which element.
 pub fn before_jump(jumps: bool, part: Part) -> Part
     ensures { result ≡ before_jump jumps part }
 {
@@ -164,9 +141,8 @@ pub fn before_jump(jumps: bool, part: Part) -> Part
     }
 }
 
-/// What a frame keeps of its pulses if the time jumps before it, as the caller found (`jumps`):
-/// only those after the elements that carry its time (`time_elements`). The jump can be within
-/// those elements, and after them the time was surely right. All if the time does not jump.
+/// Leaves out the elements that carry the time if it `jumps` before the frame: the jump can be
+/// within them, and after them the time was surely right.
 pub fn after_jump(format: Format, jumps: bool, part: Part) -> Part
     requires small { (part.number < 2 ^ 32) × (part.element < 2 ^ 32) }
     ensures { result ≡ after_jump format.kind jumps part }

@@ -1,10 +1,4 @@
-//! The frames that are missing between two others, and their times. `from` and `to` are the two
-//! frames, as parts, or their times. A part is pulses in a row, as elements of one frame whose time
-//! is known. A marker is a frame's first pulse. A time is a minute of the year, and the
-//! microseconds since it began. A `period` is how long a frame lasts, in microseconds. A missing
-//! frame must end with its minute at the latest, as each frame does. `Lens` shows the pulses of a
-//! track. `century` is 20 for 2000 to 2099. Bounds in `requires`, as 2 ^ 25 and 2 ^ 59, only keep
-//! sums and products in their types.
+//! The frames that are missing between two others, and their times.
 
 ghost use Rattle.std.specs.Prelude.{◌≡◌, ◌≤◌, ◌<◌, ◌+◌, ◌*◌, ◌^◌, IfSome, slice_get};
 ghost use Rattle.irig_codes.specs.Format.{frame_period_of};
@@ -20,22 +14,16 @@ use crate::time::Time;
 use irig_codes::Format;
 use irig_track::Lens;
 
-/// Frames that are missing between two others: the times of the first and the last, all that
-/// callers need.
+/// Frames that are missing between two others, by the times of the first and the last.
 #[derive(Clone, Copy)]
 pub struct Missing {
-    /// Whether it is one frame alone.
     pub is_one: bool,
-    /// The time of the first of them.
     pub first: Time,
-    /// The time of the last of them.
     pub last: Time,
 }
 
-/// The frames that are missing between two. How many they are, the distance of the two markers
-/// says, to the nearest period (`periods_between`); the times must be as far apart. `None` if they
-/// are not, if no frame is missing, if a marker is not there, or if `missing_in` does not count the
-/// frames (over midnight, at the end of a minute).
+/// The frames that are missing by the distance of two markers. `None` if the times are not as far
+/// apart, no frame is missing, a marker is not there, or `missing_in` does not count them.
 pub fn missing_by(
     pulses: &mut Lens<'_>,
     format: Format,
@@ -64,12 +52,9 @@ pub fn missing_by(
     }
 }
 
-/// The frames that are missing between two, whose markers are `count` periods apart: so `count` - 1
-/// frames. `from` and `to` are the times of the two. `None` if `count` is 0 or 1, if the times are
-/// not `count` periods apart, or if the first or the last missing frame would end after its minute.
-/// If one frame is missing, `middle` decides that. If more are, it is also `None` over midnight, as
-/// the times are compared by the microseconds of one day, and if `from` is in a second 60
-/// (`next_time`).
+/// The `count` - 1 frames that are missing between two times. `None` if the times are not `count`
+/// periods apart, or a missing frame would end after its minute; with two or more of them, also
+/// over midnight and after a second 60.
 pub fn missing_in(century: u32, period: u64, count: u64, from: &Time, to: &Time) -> Option<Missing>
     requires century { century ≤ 99 }
     requires small { (period < 2 ^ 25) × (count < 2 ^ 42 + 2) }
@@ -88,10 +73,8 @@ pub fn missing_in(century: u32, period: u64, count: u64, from: &Time, to: &Time)
     missing_more(period, next_time(period, from), time_before(period, to))
 }
 
-/// The time of the one frame that is missing between two: one period after the first and one before
-/// the second. It is in the minute of the first or in that of the second, since a period is shorter
-/// than a minute: both are tried. `None` if neither fits (`is_middle`): there is no such time, or
-/// its frame would end after its minute.
+/// The time of the one frame that is missing. It is in the minute of the first or of the second, so
+/// both are tried. `None` if there is no such time, or its frame would end after its minute.
 pub fn middle(century: u32, period: u64, from: &Time, to: &Time) -> Option<Time>
     requires century { century ≤ 99 }
     requires small { period < 2 ^ 32 }
@@ -113,8 +96,7 @@ pub fn middle(century: u32, period: u64, from: &Time, to: &Time) -> Option<Time>
     }
 }
 
-/// Whether `time` is one period after `from` and one period before `to` (`is_later`), and a frame
-/// of that time ends with its minute at the latest (`ends_in_minute`).
+/// Whether `time` is one period after `from` and one before `to`, and its frame ends in its minute.
 fn is_middle(century: u32, period: u64, from: &Time, time: &Time, to: &Time) -> bool
     requires century { century ≤ 99 }
     requires small { period < 2 ^ 32 }
@@ -127,7 +109,6 @@ fn is_middle(century: u32, period: u64, from: &Time, time: &Time, to: &Time) -> 
         && ends_in_minute(period, time)
 }
 
-/// One missing frame, of this time: it is the first and the last. `None` if there is no time.
 fn missing_one(time: Option<Time>) -> Option<Missing>
     ensures { result ≡ missing_one time }
 {
@@ -141,8 +122,7 @@ fn missing_one(time: Option<Time>) -> Option<Missing>
     }
 }
 
-/// Two missing frames or more: the first and the last have these times. `None` if one of the times
-/// is not there, or its frame would end after its minute (`ends_in_minute`).
+/// `None` if one of the times is not there, or its frame would end after its minute.
 fn missing_more(period: u64, first: Option<Time>, last: Option<Time>) -> Option<Missing>
     requires small { period < 2 ^ 25 }
     requires first { IfSome first (λ t. t.micros < 2 ^ 60) }

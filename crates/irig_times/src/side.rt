@@ -1,10 +1,4 @@
-//! Pulses next to a frame, from the nearest on, and what they say of the elements of the frame that
-//! they belong to. A part is pulses in a row, as elements of one frame whose time is known. A side
-//! is pulses after a part, or back before it; its places count from 0, the pulse that is nearest to
-//! the part. So the elements of a side after a frame are 0, 1, .., and those of a side before a
-//! frame 99, 98, .. A pulse says an element by its width: its class is 0, 1 or a position
-//! identifier, or none. `wanted` is the elements that the frame of a side should have. `Lens` shows
-//! the pulses of a track. Bounds in `requires`, as 2 ^ 32, only keep sums in their types.
+//! Pulses next to a frame, from the nearest on, and what they say of the elements there.
 
 ghost use Rattle.std.specs.Prelude.{◌≡◌, ◌<◌, ◌+◌, ◌^◌, Some, slice_get};
 ghost use Rattle.irig_index.specs.Marker.{is_position};
@@ -18,20 +12,19 @@ use irig_codes::{Element, Format, class};
 use irig_recording::Pulse;
 use irig_track::Lens;
 
-/// The last element of a frame, from 0.
+/// Element, from 0.
 const LAST: usize = 99;
 
 /// Pulses next to a part: on after it, or back before it. How many they are, callers say.
 #[derive(Clone, Copy)]
 pub struct Side {
-    /// Whether they go back, against the order of the track.
+    /// Against the order of the track.
     pub is_back: bool,
-    /// The number in the track, from 0, of the nearest of them, which is at place 0.
+    /// Of the nearest of them, which is at place 0.
     pub number: usize,
 }
 
-/// The pulses of a part itself, as a side that goes on from its first one. The side's elements are
-/// those of the part only if that begins with element 0, as the parts of callers do.
+/// The pulses of a part itself; the elements fit only if the part begins with element 0.
 pub fn side_of(part: &Part) -> Side
     ensures { result ≡ side_of part.now }
 {
@@ -41,7 +34,7 @@ pub fn side_of(part: &Part) -> Side
     }
 }
 
-/// The side after a frame: from the pulse after its last one on.
+/// From the pulse after the frame's last one on.
 pub fn side_after(part: &Part) -> Side
     requires { part.now.number + part.now.count < 2 ^ 32 }
     ensures { result ≡ side_after part.now }
@@ -52,8 +45,7 @@ pub fn side_after(part: &Part) -> Side
     }
 }
 
-/// The side before a frame: from the pulse before its first one back. If the first one is pulse 0,
-/// there is no pulse before it, and callers ask for none.
+/// From the pulse before the frame's first one back; before pulse 0 callers ask for none.
 pub fn side_before(part: &Part) -> Side
     ensures { result ≡ side_before part.now }
 {
@@ -63,10 +55,8 @@ pub fn side_before(part: &Part) -> Side
     }
 }
 
-/// Whether the pulse at a place of a side says another element than the frame there should have
-/// (`wanted`). Position identifiers and the elements of the time are compared (`contradicts`). Of
-/// all others nobody knows the value; but none of them is a position identifier, so one that is
-/// denies, too (`is_stray`). False if the pulse is not there, or its width is of no class.
+/// Whether the pulse at a place says another element than `wanted`. Nobody knows the elements that
+/// are not of the time, but none of them is a position identifier (`is_stray`).
 pub fn denies(
     pulses: &mut Lens<'_>,
     format: Format,
@@ -87,8 +77,7 @@ pub fn denies(
     is_stray(format, pulse, wanted[element])
 }
 
-/// Whether a pulse is a position identifier by its width, and `wanted`, the element that it should
-/// be, is not one. False if the pulse is not there.
+/// Whether a pulse is a position identifier by its width, and should not be one.
 fn is_stray(format: Format, pulse: Option<Pulse>, wanted: Element) -> bool
     ensures { result ≡ is_stray format pulse (Some wanted) }
 {
@@ -101,8 +90,7 @@ fn is_stray(format: Format, pulse: Option<Pulse>, wanted: Element) -> bool
     }
 }
 
-/// Whether the pulse at a place of a side is a position identifier by its width, where the frame
-/// there should have one (`wanted`). False if the pulse is not there.
+/// Whether the pulse at a place is a position identifier by its width, and should be one.
 pub fn confirms(
     pulses: &mut Lens<'_>,
     format: Format,
@@ -118,8 +106,6 @@ pub fn confirms(
     is_mark(format, pulse, wanted[element_of(side, place)])
 }
 
-/// Whether a pulse is a position identifier by its width, and `wanted`, the element that it should
-/// be, is one, too. False if the pulse is not there.
 fn is_mark(format: Format, pulse: Option<Pulse>, wanted: Element) -> bool
     ensures { result ≡ is_mark format pulse (Some wanted) }
 {
@@ -132,7 +118,6 @@ fn is_mark(format: Format, pulse: Option<Pulse>, wanted: Element) -> bool
     }
 }
 
-/// Whether a class is that of a position identifier. False for a width of no class (`None`).
 fn is_position(class: Option<Element>) -> bool
     ensures { result ≡ is_position class }
 {
@@ -142,8 +127,7 @@ fn is_position(class: Option<Element>) -> bool
     }
 }
 
-/// The number in the track, from 0, of the pulse at a place of a side. On a side that goes back,
-/// callers ask for no place before pulse 0 of the track.
+/// The number in the track, from 0, of the pulse at a place.
 fn pulse_of(side: &Side, place: usize) -> usize
     requires { (side.now.number < 2 ^ 32) × (place < 2 ^ 32) }
     ensures { result ≡ pulse_of side.now place }
@@ -155,8 +139,7 @@ fn pulse_of(side: &Side, place: usize) -> usize
     }
 }
 
-/// Which element of its frame, from 0, the pulse at a place of a side is: on a side that goes on
-/// the one of that number; on a side that goes back element 99 at place 0, 98 at place 1.
+/// On a side that goes back element 99 is at place 0, 98 at place 1.
 fn element_of(side: &Side, place: usize) -> usize
     requires { place < 100 }
     ensures element { result ≡ element_of side.now place }

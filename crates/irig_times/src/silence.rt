@@ -1,12 +1,4 @@
-//! What counts of the pulses before the first frame and after the last one, that is, has a time.
-//! `end_before` and `end_after` list those that are in step and say no other time. A clock can be
-//! set in silence, and only the elements of the time, the first ones of a frame, show it. So pulses
-//! next to silence, at the begin or the end of the recording, count only if all these elements were
-//! recorded there. At the end they count only up to the last position identifier, without it. A
-//! part is pulses in a row, as elements of one frame whose time is known. A pair
-//! of parts is what counts, and an empty part, as other callers count from two sides. A frame is
-//! believed if another one near it supports its time. `Lens` shows the pulses of a track. Bounds in
-//! `requires`, as 2 ^ 32, only keep sums in their types.
+//! What counts of the pulses before the first frame and after the last one, next to silence.
 
 ghost use Rattle.std.specs.Prelude.{◌≡◌, ◌≤◌, ◌<◌, ◌+◌, ◌^◌, IfSome};
 ghost use Rattle.irig_times.specs.Silence.{before_silence, counted_after, counted_before};
@@ -25,16 +17,14 @@ use irig_codes::Format;
 use irig_recording::Pulse;
 use irig_track::Lens;
 
-/// Whether `micros` microseconds without a rise are silence: more than two intervals, which is this
-/// project's own choice.
+/// More than two intervals without a rise, which is this project's own choice.
 fn is_silence(format: Format, micros: u64) -> bool
     ensures { result ≡ is_silence format micros }
 {
     micros > 2 * format.interval()
 }
 
-/// Whether silence is before the first pulse of a track, from the begin of the recording to the
-/// rise of that pulse (`is_silence`); false if the track has no pulse.
+/// From the begin of the recording to its first rise.
 fn is_silent_before(format: Format, first: Option<Pulse>) -> bool
     ensures { result ≡ is_silent_before format first }
 {
@@ -44,9 +34,7 @@ fn is_silent_before(format: Format, first: Option<Pulse>) -> bool
     }
 }
 
-/// Whether silence is after the last pulse of a track, from its rise to the end of the recording,
-/// which is `micros` microseconds long (`is_silence`); false if the track has no pulse. The
-/// subtraction stops at 0, but no pulse rises after the end.
+/// From the last rise to the end of the recording, which is `micros` microseconds long.
 fn is_silent_after(format: Format, micros: u64, last: Option<Pulse>) -> bool
     ensures { result ≡ is_silent_after format micros last }
 {
@@ -56,8 +44,7 @@ fn is_silent_after(format: Format, micros: u64, last: Option<Pulse>) -> bool
     }
 }
 
-/// Whether a part begins with the first pulse of a track, and silence is before that pulse
-/// (`is_silent_before`).
+/// Whether a part begins with the first pulse of the track, and silence is before it.
 fn follows_silence(pulses: &mut Lens<'_>, format: Format, part: &Part) -> bool
     ensures silent { result ≡ follows_silence format pulses.old.track.pulses part.now }
     ensures pulses { pulses.new.track ≡ pulses.old.track }
@@ -69,8 +56,7 @@ fn follows_silence(pulses: &mut Lens<'_>, format: Format, part: &Part) -> bool
     is_silent_before(format, first)
 }
 
-/// Whether a part ends with the last pulse of a track, and silence is after that pulse
-/// (`is_silent_after`). False for a track without pulses: its last one is not there.
+/// Whether a part ends with the last pulse of the track, and silence is after it.
 fn precedes_silence(pulses: &mut Lens<'_>, format: Format, part: &Part) -> bool
     requires small { (part.now.number < 2 ^ 32) × (part.now.count ≤ 100) }
     ensures silent { result ≡ precedes_silence format pulses.old.track.micros
@@ -86,9 +72,8 @@ fn precedes_silence(pulses: &mut Lens<'_>, format: Format, part: &Part) -> bool
     is_silent_after(format, micros, last)
 }
 
-/// Whether all elements of the time are among the pulses of a part: it begins with element 0 and
-/// has enough pulses. The last pulse of the track does not count, since the end of the recording
-/// can have cut it (`uncut_pulses`).
+/// Whether all elements of the time are among the pulses of a part. The last pulse of the track
+/// does not count, since the end of the recording can have cut it.
 fn has_its_time(pulses: &Lens<'_>, format: Format, part: &Part) -> bool
     requires small { (part.now.number < 2 ^ 32) × (part.now.count ≤ 100) }
     ensures { result ≡ has_its_time format pulses.now.track.pulses part.now }
@@ -96,8 +81,7 @@ fn has_its_time(pulses: &Lens<'_>, format: Format, part: &Part) -> bool
     part.element == 0 && uncut_pulses(pulses, part) >= time_elements(format)
 }
 
-/// Whether a part before the first frame counts: it is not next to silence (`follows_silence`), or
-/// it has all elements of its time (`has_its_time`).
+/// Whether a part is not next to silence, or has all elements of its time.
 fn counts_before(pulses: &mut Lens<'_>, format: Format, part: &Part) -> bool
     requires small { (part.now.number < 2 ^ 32) × (part.now.count ≤ 100) }
     ensures counts { result ≡ counts_before format pulses.old.track.pulses part.now }
@@ -106,10 +90,7 @@ fn counts_before(pulses: &mut Lens<'_>, format: Format, part: &Part) -> bool
     !follows_silence(pulses, format, part) || has_its_time(pulses, format, part)
 }
 
-/// A part with its first pulses alone: those before its last position identifier that is where its
-/// frame should have one. Only identifiers before the first pulse that says another element are
-/// taken (`borne_out_at`). It has no pulse if there is no such identifier, or if no frame can have
-/// its time.
+/// The pulses of a part before its last position identifier that is at its place.
 fn up_to_mark(pulses: &mut Lens<'_>, format: Format, part: &Part) -> Part
     requires small { (part.now.number < 2 ^ 32) × (part.now.count ≤ 100) }
     ensures part { result ≡ up_to_mark format pulses.old.track.pulses part.now }
@@ -119,9 +100,8 @@ fn up_to_mark(pulses: &mut Lens<'_>, format: Format, part: &Part) -> Part
     Part { count, ..*part }
 }
 
-/// What counts of a part before silence, and the empty part after it (`next`): the pulses before
-/// its last position identifier (`up_to_mark`), as nothing shows what was lost from there on.
-/// `None` if the part does not have all elements of its time (`has_its_time`).
+/// A part before silence, up to its last position identifier: nothing shows what was lost from
+/// there on.
 fn before_silence(
     pulses: &mut Lens<'_>,
     format: Format,
@@ -139,9 +119,7 @@ fn before_silence(
     }
 }
 
-/// What counts of the pulses before the first frame. `sides` is these, as `end_before` returns
-/// them: the same again if they count (`counts_before`), else `None`. `None` also if there are
-/// none.
+/// The pair of `end_before`, if it counts.
 fn heard_before(
     pulses: &mut Lens<'_>,
     format: Format,
@@ -161,9 +139,7 @@ fn heard_before(
     }
 }
 
-/// What counts of the pulses after the last frame. `sides` is these, as `end_after` returns them:
-/// the same again, unless they end the track and silence is after it (`precedes_silence`); then
-/// what `before_silence` leaves of them. `None` if there are none, or none count.
+/// The pair of `end_after`, or what silence leaves of it.
 fn heard_after(
     pulses: &mut Lens<'_>,
     format: Format,
@@ -184,10 +160,8 @@ fn heard_after(
     }
 }
 
-/// The pulses before the first frame (`to`) that have a time, and an empty part: what `end_before`
-/// counts, if it counts next to silence (`heard_before`). `None` if the frame is not believed or
-/// begins the day, if a pulse says another time, if no frame can have that time, or if silence is
-/// before the pulses and not all elements of the time are there.
+/// The pulses before the first frame that have a time, and an empty part. `None` if `end_before`
+/// has none, or silence is before them and not all elements of the time are there.
 pub fn counted_before(pulses: &mut Lens<'_>, format: Format, to: &Part) -> Option<(Part, Part)>
     requires { (to.now.time.micros < 2 ^ 59) × (to.now.number < 2 ^ 30) }
     ensures end { result ≡ counted_before format pulses.old.track.pulses to.now }
@@ -197,11 +171,8 @@ pub fn counted_before(pulses: &mut Lens<'_>, format: Format, to: &Part) -> Optio
     heard_before(pulses, format, sides)
 }
 
-/// The pulses after the last frame (`from`) that have a time, and an empty part (the pair of the
-/// head). They are those that `end_after` counts, or if silence is after them those before their
-/// last position identifier (`heard_after`). `None` if the frame is not there, is not believed,
-/// ends the day or shows a second 60, if a pulse says another time, if no frame can have that time,
-/// or if silence is after the pulses and not all elements of the time are there.
+/// The pulses after the last frame that have a time, and an empty part. `None` if `end_after` has
+/// none, or silence is after them and not all elements of the time are there.
 pub fn counted_after(
     pulses: &mut Lens<'_>,
     format: Format,

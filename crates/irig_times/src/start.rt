@@ -1,10 +1,4 @@
-//! Where frames start. `century` is 20 for 2000 to 2099. A record is a frame of the track; places
-//! of records, pulses and elements count from 0. A frame's marker is its first pulse: the second of
-//! two position identifiers in a row. A frame has a time (`timed`) if it is fine, neither broken
-//! nor read with a note, and ends with its minute of 61 seconds at the latest. `Lens` shows the
-//! pulses of a track, and `FrameLens` its records. Neither is changed, but for its count of looks.
-//! `PartedAt` claims how many records have a marker up to a pulse: this is also the place of the
-//! first record after it. `AreFrames` claims that the records are those of a track.
+//! Where frames start that have a time.
 
 ghost use Rattle.std.specs.Prelude.{◌≡◌, ◌↔◌, ◌<◌, ◌≤◌, ◌+◌, IsTrue, length, slice_get, Some};
 ghost use Rattle.irig_codes.specs.Format.{FormatView};
@@ -25,14 +19,12 @@ use irig_track::Lens;
 pub struct FrameStart {
     /// When its marker rises, in microseconds.
     pub rise: u64,
-    /// Its time.
     pub time: Time,
     /// Whether the next frame begins right after this one, and its time is one period later.
     pub is_followed: bool,
 }
 
-/// Where the frame of the record at a place starts: when its marker rises, its time, and whether
-/// the next frame follows it (`is_followed`). `None` if the frame has no time (`timed`).
+/// Where the frame of the record at a place starts; `None` if the frame has no time.
 pub fn start_of(
     pulses: &mut Lens<'_>,
     records: &mut FrameLens<'_>,
@@ -48,7 +40,7 @@ pub fn start_of(
     ensures pulses { pulses.new.track ≡ pulses.old.track }
     ensures same { records.new.records ≡ records.old.records }
 {
-    // For the proof alone: the call promises how many records there can be.
+    // For the proof alone: a bound.
     let _count = records.len();
     let record = records.record(place);
     match timed(format, record.verdict) {
@@ -65,9 +57,7 @@ pub fn start_of(
     }
 }
 
-/// Where the frame that begins with the pulse `marker` and has these `fields` starts. A frame has a
-/// hundred pulses, so its last one is `marker + 99`. `next` is the place after the frame's record:
-/// that of the next frame's record, if there is a next frame.
+/// `next` is the place after the frame's record.
 fn started(
     pulses: &mut Lens<'_>,
     records: &mut FrameLens<'_>,
@@ -89,7 +79,7 @@ fn started(
     ensures pulses { pulses.new.track ≡ pulses.old.track }
     ensures same { records.new.records ≡ records.old.records }
 {
-    // For the proof alone: the call promises how many pulses there can be.
+    // For the proof alone: a bound.
     let _count = pulses.len();
     FrameStart {
         rise: pulses.pulse(marker).rise,
@@ -98,11 +88,8 @@ fn started(
     }
 }
 
-/// Whether the next frame begins right after the frame with these fields, and its time is one frame
-/// period later (`is_later`). `number` is the last pulse of the frame with these fields, and `next`
-/// the place of the next frame's record. False if there is no next frame, it begins elsewhere, or
-/// it has no time. `marker - 1` is never below 0: a marker is not pulse 0, as another position
-/// identifier is before it.
+/// `number` is the last pulse of the frame with these fields, `next` the place after its record.
+/// `marker - 1` is not below 0: before a marker is another position identifier.
 fn is_followed(
     records: &mut FrameLens<'_>,
     format: Format,

@@ -1,14 +1,4 @@
 //! Which frames are believed: those that another one near them supports, and that are on no island.
-//! Two frames agree if they are near enough for their distance to say how many periods it is, and
-//! their times are as many apart. A frame is supported if one of the two nearest frames before it,
-//! or of the two nearest after it, agrees with it. An island is up to three frames that are wrong
-//! alike, between two frames that agree with each other, its shores. Only frames that have a time
-//! (`timed`) count here. A record is a frame of the track; places of records count from 0. `Lens`
-//! shows the pulses of the track, and `FrameLens` its records. `before` and `after` are the five
-//! frames nearest to a frame, on each side of it, the nearest first. What a frame shows (`Shown`)
-//! is its fields and when its marker, its first pulse, rises. In contracts, `shown_in` is what
-//! those frames of some records show that have a time, and `with_frame` is a list with one more
-//! frame before it, if that is there.
 
 ghost use Rattle.std.specs.Prelude.{◌≡◌, ◌<◌, ◌&&◌, IfOk, None, Some, [], drop, is_some, length};
 ghost use Rattle.std.specs.Prelude.{List, not, slice_get};
@@ -28,8 +18,7 @@ use irig_track::Lens;
 use std::alloc::{AllocError, Global};
 
 /// Of each record, in order, whether its frame is believed. With `alone` each frame that has a time
-/// is believed; without it each one that has a time, is supported and is on no island. Fails only
-/// if memory runs out.
+/// is.
 pub fn held_frames(
     alloc: Global,
     pulses: &mut Lens<'_>,
@@ -70,7 +59,7 @@ fn shown_at(
     ensures same { records.new.records ≡ records.old.records }
 {
     let record = records.record(place);
-    // For the proof alone: the call promises how many pulses there can be.
+    // For the proof alone: a bound.
     let _count = pulses.len();
     match timed(format, record.verdict) {
         Some(fields) => Some(Shown {
@@ -81,9 +70,7 @@ fn shown_at(
     }
 }
 
-/// What the first five frames show that have a time, of the records from the place `from` on;
-/// `None` for each that is not there. They are the five nearest after the frame whose record is
-/// just before that place.
+/// What the first five frames show that have a time, of the records from the place `from` on.
 fn shown_after(
     pulses: &mut Lens<'_>,
     records: &mut FrameLens<'_>,
@@ -110,8 +97,7 @@ fn shown_after(
     }
 }
 
-/// What the first frame shows that has a time, of the records from the place `from` on, and the
-/// place after its record. If there is none, `None` and the number of all records.
+/// What the first frame shows that has a time, and the place after its record.
 fn next_shown(
     pulses: &mut Lens<'_>,
     records: &mut FrameLens<'_>,
@@ -136,17 +122,14 @@ fn next_shown(
     (None, records.len())
 }
 
-/// Whether a frame is there, that is, it is not `None`.
 fn is_there(frame: Option<Shown>) -> bool
     ensures { result ≡ is_some frame }
 {
     frame.is_some()
 }
 
-/// Whether a frame is believed; false if it is `None`, as it has no time. If `alone`, each frame
-/// that is there is believed. `before` is the frames nearest before it, and `next` the place of the
-/// first record after it. The frames after it are looked at only if those before it do not decide
-/// (`is_believed_whatever_follows`).
+/// `before` is the frames nearest before it, and `next` the place of the first record after it. The
+/// frames after it are looked at only if those before it do not decide.
 fn is_held(
     pulses: &mut Lens<'_>,
     records: &mut FrameLens<'_>,
@@ -176,10 +159,8 @@ fn is_held(
     is_believed(format, before, &frame, &after)
 }
 
-/// Whether the frames before a frame are enough to believe it. The nearest of them agrees with it:
-/// so it is supported, and that nearest one is no shore. Neither is the second (`from_second`) or
-/// the third (`from_third`) a shore. An island of at most three frames has its first shore among
-/// these three, so the frame is on none. If false, the frames after it decide.
+/// Whether the frames before a frame are enough to believe it: the nearest agrees with it, and none
+/// of the nearest three is a shore. An island of three frames has its first shore among these.
 fn is_believed_whatever_follows(format: Format, before: &Nearest, frame: &Shown) -> bool
     ensures { result ≡ (agrees_from format before.now.first frame.now
         && (not (is_shore_before format before.now.fourth before.now.third before.now.second
@@ -192,7 +173,6 @@ fn is_believed_whatever_follows(format: Format, before: &Nearest, frame: &Shown)
         && !is_shore_before(format, before.from_third(), frame)
 }
 
-/// Whether a frame is supported (`is_supported`), and on no island (`is_on_island`).
 fn is_believed(format: Format, before: &Nearest, frame: &Shown, after: &Nearest) -> bool
     ensures { (left : List Shown) (right : List Shown) → before.now ≡ nearest left
         → after.now ≡ nearest right → result ≡ is_believed format left frame.now right }
@@ -200,8 +180,7 @@ fn is_believed(format: Format, before: &Nearest, frame: &Shown, after: &Nearest)
     is_supported(format, before, frame, after) && !is_on_island(format, before, frame, after)
 }
 
-/// Whether one of the two nearest frames before a frame, or of the two nearest after it, agrees
-/// with it. Also true if there is no other frame, so none could support it.
+/// Also true if there is no other frame, so none could support it.
 fn is_supported(format: Format, before: &Nearest, frame: &Shown, after: &Nearest) -> bool
     ensures { result ≡ is_supported format before.now.second before.now.first after.now.first
         after.now.second frame.now }

@@ -1,8 +1,4 @@
-//! The frames of a track that have a time, as parts. A part is pulses in a row, as elements of one
-//! frame whose time is known. A whole part is that of a frame alone: its hundred pulses, or none if
-//! it is not believed. A frame is believed if another one near it supports its time. A fine frame,
-//! neither broken nor read with a note, that ends with its minute has a time (`timed`). `FrameLens`
-//! shows the frames of a track, each by a record.
+//! The frames of a track that have a time, as parts.
 
 ghost use Rattle.std.specs.Prelude.{◌≡◌, ◌<◌, IfOk, Some, length, slice_get};
 ghost use Rattle.irig_index.specs.{Frames.frames, declared.record.Record.Record};
@@ -15,9 +11,8 @@ use crate::time::{time_in, timed};
 use irig_codes::{Fields, Format};
 use std::alloc::{AllocError, Global};
 
-/// The parts of the frames of a track that have a time, in order. `held` says of each record
-/// whether its frame is believed: the part of one that is not has no pulse. Fails only if memory
-/// runs out.
+/// The parts, in order. `held` says of each record if its frame is believed; else its part is
+/// empty.
 pub fn whole_parts(
     alloc: Global,
     records: &mut FrameLens<'_>,
@@ -38,8 +33,7 @@ pub fn whole_parts(
     Ok(list)
 }
 
-/// The part of the frame of the record at a place, from 0; `None` if the frame has no time
-/// (`timed`). `is_held` is whether it is believed (`whole`).
+/// The part of the frame of the record at a place; `None` if that has no time.
 fn whole_at(
     records: &mut FrameLens<'_>,
     format: Format,
@@ -58,8 +52,7 @@ fn whole_at(
     }
 }
 
-/// The part of a frame that begins with the pulse `marker`, from 0: its hundred pulses if it is
-/// believed (`is_held`), else none. Its time is that of its `fields`.
+/// Its hundred pulses if it is believed (`is_held`), else none.
 fn whole(marker: usize, is_held: bool, fields: &Fields) -> Part
     ensures { result ≡ whole marker is_held fields.now }
 {

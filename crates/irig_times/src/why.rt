@@ -1,11 +1,4 @@
-//! Why there is no time before, between and after the frames of a track. A frame that has a time is
-//! a part: its pulses, as elements of one frame whose time is known. It is believed if another one
-//! near it supports its time; one that is not is a part without pulses. A marker is a frame's first
-//! pulse. The time jumps between two frames if a clock was set there or intervals were lost, and at
-//! an end of the track if pulses there say another time. `from` and `to` are two frames that follow
-//! one another, `None` at an end. `Lens` shows the pulses of a track, and `FrameLens` its frames,
-//! each by a record. `century` is 20 for 2000 to 2099. Bounds as 2 ^ 30 and 2 ^ 59 only keep sums
-//! in their types.
+//! Why there is no time before, between and after the frames of a track.
 
 ghost use Rattle.std.specs.Prelude.{◌≡◌, ◌≤◌, ◌<◌, ◌+◌, ◌^◌, IfOk, IfSome, MatchOption, length};
 ghost use Rattle.irig_index.specs.Frames.{frames};
@@ -41,15 +34,12 @@ pub enum Why {
 /// The frames of a track that have a time, and why there is none before, between and after them.
 #[derive(Drop)]
 pub struct Whys {
-    /// The frames, in order. One that is not believed is there without pulses.
     pub frames: Vec<Part>,
-    /// The reason before each frame, in order, and at the end that after the last one: so there is
-    /// one reason more than frames.
+    /// The reason before each frame, and at the end that after the last one.
     pub gaps: Vec<Why>,
 }
 
-/// The frames of a track that have a time, and the reasons around them. `held` says of each record
-/// if its frame is believed. Fails only if memory runs out.
+/// The frames and the reasons around them. `held` says of each record if its frame is believed.
 pub fn find_whys(
     alloc: Global,
     pulses: &mut Lens<'_>,
@@ -71,8 +61,7 @@ pub fn find_whys(
     Ok(Whys { frames, gaps })
 }
 
-/// The reasons before each of the frames `whole`, and after the last one, in order: the `gaps` of
-/// `Whys`. Fails only if memory runs out.
+/// The reasons before each of the frames `whole`, and after the last one.
 fn gaps(
     alloc: Global,
     pulses: &mut Lens<'_>,
@@ -86,7 +75,7 @@ fn gaps(
         AreWhys format century pulses.old.track.pulses whole.now list.items) }
     ensures pulses { pulses.new.track ≡ pulses.old.track }
 {
-    // For the proof alone: the call promises how many pulses there can be.
+    // For the proof alone: a bound.
     let _count = pulses.len();
     let mut list = Vec::new(alloc);
     let mut before = None;
@@ -99,9 +88,7 @@ fn gaps(
     Ok(list)
 }
 
-/// Why pulses between two frames have no time; before the first if `from` is `None`, after the last
-/// if `to` is. `Step` if the time jumps there (`is_jump_between`), else what `why_without_jump`
-/// says.
+/// `Step` if the time jumps there, else what `why_without_jump` says.
 fn why_next_to(
     pulses: &mut Lens<'_>,
     format: Format,
@@ -122,8 +109,7 @@ fn why_next_to(
     why_without_jump(pulses, format, century, from, to)
 }
 
-/// Why pulses between two frames have no time, if no jump is there: `Before` if `from` is `None`,
-/// `After` if only `to` is `None`, else what `why_between` says.
+/// `Before` if `from` is `None`, `After` if only `to` is `None`, else what `why_between` says.
 fn why_without_jump(
     pulses: &mut Lens<'_>,
     format: Format,
@@ -145,9 +131,7 @@ fn why_without_jump(
     }
 }
 
-/// Why pulses between two frames have no time, if both are there and no jump is between them.
-/// `Unbelieved` if one of the two is not believed; else `Hole` if their times are as far apart as
-/// their markers (`are_apart_by`), `Set` if not.
+/// `Unbelieved`, else `Hole` if their times are as far apart as their markers, `Set` if not.
 fn why_between(pulses: &mut Lens<'_>, format: Format, century: u32, from: &Part, to: &Part) -> Why
     requires century { century ≤ 99 }
     requires times { (from.now.time.micros < 2 ^ 59) × (to.now.time.micros < 2 ^ 59) }

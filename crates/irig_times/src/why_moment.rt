@@ -1,8 +1,4 @@
-//! Why a moment has no time, by the reasons that are known of a track (`Whys`): its frames that
-//! have a time, and the reason before each of them and after the last. A frame is a hundred pulses,
-//! as a part; one that is not believed is a part without pulses: no frame near it supports its
-//! time. The reason `Step` is that the time jumps. `Lens` shows the pulses of a track, which count
-//! from 0. In contracts, `IsKnown` claims that the reasons are those of a track.
+//! Why a moment has no time, by the reasons that are known of a track.
 
 ghost use Rattle.std.specs.Prelude.{◌≡◌, ◌≤◌, ◌/◌, ℕ, List, Bool, Some};
 ghost use Rattle.irig_index.specs.Frames.{frames};
@@ -17,15 +13,13 @@ use crate::why::{Why, Whys};
 use irig_codes::Format;
 use irig_track::Lens;
 
-/// The picoseconds of a microsecond.
+/// Of a microsecond.
 const PICOS: u64 = 1_000_000;
 
-/// The pulses of a frame.
 const FRAME_PULSES: usize = 100;
 
-/// Why the moment `picos` picoseconds after the start has no time. `Before` if no pulse has risen
-/// by then, else the reason of the last pulse that has (`why_of`). The answer means nothing if the
-/// moment has a time.
+/// Why the moment `picos` picoseconds after the start has no time. The answer means nothing if the
+/// moment has one.
 pub fn why_at(pulses: &mut Lens<'_>, known: &Whys, format: Format, picos: u64) -> Why
     requires known { (held : List Bool) × (century : ℕ)
         × IsKnown format held century pulses.old.track.pulses known.now }
@@ -42,10 +36,7 @@ pub fn why_at(pulses: &mut Lens<'_>, known: &Whys, format: Format, picos: u64) -
     why_of(&known.frames, &known.gaps, format, risen - 1)
 }
 
-/// Why pulse `number` has no time. `parts` is the frames, and `gaps` the reasons around them:
-/// `gaps[k]` is that before frame k, and the last one that after all frames. If no frame begins
-/// with the pulse or before it, the reason is the first one; else the last frame that does decides
-/// (`why_after`).
+/// Why pulse `number` has no time: `gaps[k]` is the reason before frame k, the last that after all.
 fn why_of(parts: &[Part], gaps: &[Why], format: Format, number: usize) -> Why
     requires known { (held : List Bool) × (century : ℕ) × (ps : List Pulse)
         × IsKnownBy format held century ps parts.now gaps.now }
@@ -62,10 +53,8 @@ fn why_of(parts: &[Part], gaps: &[Why], format: Format, number: usize) -> Why
     why_after(format, number, &part, gaps[count - 1], later)
 }
 
-/// Why pulse `number` has no time, if `frame` is the last frame that begins with it or before it.
-/// `earlier` is the reason before that frame, `later` that after it. `Unbelieved` if the pulse is
-/// one of the hundred of a frame that is not believed; `Step` if the time jumps before the frame
-/// (`earlier`), and the pulse is one of those that carry its time (`time_elements`); else `later`.
+/// By the last frame that begins with the pulse or before it: `Unbelieved` in its hundred pulses,
+/// `Step` if the time jumps before it and the pulse carries its time, else `later`.
 fn why_after(format: Format, number: usize, frame: &Part, earlier: Why, later: Why) -> Why
     requires small { frame.now.number ≤ number }
     ensures { result ≡ why_after format number (Some frame.now) earlier later }
@@ -80,7 +69,6 @@ fn why_after(format: Format, number: usize, frame: &Part, earlier: Why, later: W
     later
 }
 
-/// Whether the reason is `Step`: the time jumps.
 fn is_step(why: Why) -> bool
     ensures { result ≡ is_step why }
 {
