@@ -1,8 +1,4 @@
-//! By how much the time of one frame is later than that of another. `other` is a frame that begins
-//! after `one`. The clock of a frame is its day and its time of day as one number, in hundredths of
-//! a second; the year is not in it. Second 60 is an inserted one, at the end of a minute. A frame
-//! period is how long a frame nominally takes. Bounds in contracts, as 2^60, only keep numbers
-//! small enough for their types.
+//! By how much the time of one frame is later than that of another, which begins before it.
 
 ghost use Rattle.std.specs.Prelude.{◌≡◌, ◌+◌, ◌%◌, ◌==◌, ◌^◌, ◌<◌};
 ghost use Rattle.irig_safety.specs.Calendar.{clock_after, clock_of, goes_back, inserted_of};
@@ -12,9 +8,7 @@ ghost use Rattle.irig_moment.specs.Generated.{period_of};
 use crate::shown::Shown;
 use irig_codes::{Fields, Format};
 
-/// The day and time of day as one number, in hundredths of a second; fields without hundredths
-/// count as having 0. It counts from a day before the year begins, as days count from 1. This does
-/// not matter: clocks are only compared.
+/// The day and time of day as one number, in hundredths of a second: only good to compare.
 pub fn clock(fields: &Fields) -> u128
     ensures value { result ≡ clock_of fields.now }
     ensures small { result < 2 ^ 60 }
@@ -27,7 +21,7 @@ pub fn clock(fields: &Fields) -> u128
     8_640_000 * days + 360_000 * hours + 6_000 * minutes + 100 * seconds + hundredths
 }
 
-/// The frame period in hundredths of a second, 10,000 microseconds each: from 1 (G) to 1,000 (E).
+/// In hundredths of a second, 10,000 microseconds each: from 1 (G) to 1,000 (E).
 fn period(format: Format) -> u128
     ensures value { result ≡ period_of format }
     ensures some { 0 < result }
@@ -35,15 +29,14 @@ fn period(format: Format) -> u128
     u128::from(format.frame_period()) / 10_000
 }
 
-/// Whether the year `other` is the one after `one`, both of two digits: 0 comes after 99.
+/// Of two digits: 0 comes after 99.
 fn is_next_year(one: u32, other: u32) -> bool
     ensures { result ≡ ((one + 1) % 100 == other) }
 {
     (u64::from(one) + 1) % 100 == u64::from(other)
 }
 
-/// Whether the year `other` is `one` or the one after it, or neither is known. False if just one is
-/// known.
+/// False if just one is known.
 fn is_near_year(one: Option<u32>, other: Option<u32>) -> bool
     ensures { result ≡ is_near_year one other }
 {
@@ -54,7 +47,7 @@ fn is_near_year(one: Option<u32>, other: Option<u32>) -> bool
     }
 }
 
-/// How many hundredths of a second a year has: 365 days, or 366 if it is long.
+/// In hundredths of a second.
 fn year_length(is_long: bool) -> u128
     ensures value { result ≡ year_of is_long }
     ensures small { result < 2 ^ 32 }
@@ -66,10 +59,9 @@ fn year_length(is_long: bool) -> u128
     }
 }
 
-/// By how many hundredths of a second the year of `other` begins after that of `one`. If both years
-/// are known: by a year if `other` is in the next one, else 0. A year is long if its number is a
-/// multiple of 4, as from 1901 to 2099. If neither is known: by a year if the clock would go back
-/// otherwise, and by a long one if `one` is on day 366. If just one is known: 0.
+/// By how many hundredths of a second the year of `other` begins later. A year is long if its
+/// number is a multiple of 4, as from 1901 to 2099. Of unknown years: by a year if the clock would
+/// go back otherwise, and by a long one if `one` is on day 366.
 fn turn(one: &Fields, other: &Fields) -> u128
     ensures value { result ≡ turn_of one.now.year other.now.year one.now other.now }
     ensures small { result < 2 ^ 32 }
@@ -93,9 +85,8 @@ fn turn(one: &Fields, other: &Fields) -> u128
     }
 }
 
-/// The hundredths of a second that the inserted second 60 of `one` adds to the clock of `other`:
-/// 100, or 0 if `one` is in no second 60, or `other` is, too. Second 60 has the clock of second 0
-/// of the next minute, but is a second before it.
+/// The hundredths that second 60 of `one` adds to the clock of `other`: second 60 has the clock of
+/// second 0 of the next minute, but is a second before it.
 fn inserted(one: &Fields, other: &Fields) -> u128
     ensures value { result ≡ inserted_of one.now other.now }
     ensures small { result < 2 ^ 8 }
@@ -107,8 +98,7 @@ fn inserted(one: &Fields, other: &Fields) -> u128
     }
 }
 
-/// The time of `other` on the clock of the year of `one`, in hundredths of a second: with the turn
-/// of the year and the inserted second that are between them, if there are any.
+/// The time of `other` on the clock of the year of `one`, in hundredths of a second.
 fn clock_after(one: &Shown, other: &Shown) -> u128
     ensures value { result ≡ clock_after one.now other.now }
     ensures small { result < 2 ^ 61 }
@@ -116,8 +106,7 @@ fn clock_after(one: &Shown, other: &Shown) -> u128
     clock(&other.fields) + turn(&one.fields, &other.fields) + inserted(&one.fields, &other.fields)
 }
 
-/// How many whole frame periods the time of `other` is after that of `one`, rounded down; 0 if it
-/// is not later.
+/// How many whole periods the time of `other` is after that of `one`; 0 if it is not later.
 pub fn periods(format: Format, one: &Shown, other: &Shown) -> u128
     ensures value { result ≡ periods format one.now other.now }
     ensures small { result < 2 ^ 61 }
@@ -137,10 +126,9 @@ fn goes_back(one: &Fields, other: &Fields) -> bool
         && one.minutes == other.minutes
 }
 
-/// Whether the time of `other` is whole frame periods after that of `one`, at least one, and its
-/// year is the same, the next, or unknown of both (`is_near_year`). False also if it goes back from
-/// second 60 to an earlier second of that minute (`goes_back`): the inserted second, or a turn of
-/// the year, would make it seem later.
+/// Whether the time of `other` is whole periods later, at least one, and its year can be. False if
+/// it goes back from second 60: the inserted second, or a turn of the year, would make it seem
+/// later.
 pub fn is_later(format: Format, one: &Shown, other: &Shown) -> bool
     ensures { result ≡ is_later format one.now other.now }
 {

@@ -1,8 +1,5 @@
-//! The control functions of a frame, which its time does not decide. Each is one bit, carried by
-//! one element. Functions and elements count from 0. A frame has at most 45 functions; they are the
-//! bits of a `u64`, so a number is below 64. Former frames are those of the recording that read
-//! well, with nothing wrong in them, when it was opened. `Witnesses` are the frames next to a
-//! place: `before2` and `before` before it, the nearer one last, `after` and `after2` after it.
+//! The control functions of a frame, which its time does not decide: each is one bit, in one
+//! element.
 
 ghost use Rattle.std.specs.Prelude.{◌≡◌, ◌<◌, ◌≤◌};
 ghost use Rattle.irig_codes.specs.Format.{control_count_of, has_year};
@@ -22,9 +19,8 @@ pub fn functions(format: Format) -> u32
     control_count(format)
 }
 
-/// The element of a frame with the first control function, by the standard's layout: the digits of
-/// the time are before it, in elements 0 to 49. In G the hundredths take ten elements more; so does
-/// the year in each format, if the expression has one.
+/// Its element, by the standard's layout: after the digits of the time, elements 0 to 49. In G the
+/// hundredths take ten elements more; so does the year in each format, if it has one.
 fn first_function(format: Format) -> usize
     ensures value { result ≡ first_function format.kind (has_year format.expression) }
     ensures few { result ≤ 70 }
@@ -37,9 +33,7 @@ fn first_function(format: Format) -> usize
     }
 }
 
-/// The element of a frame with a control function, both from 0. Functions are in groups of nine
-/// elements, and a position identifier follows each group. That the frame has this function
-/// (`functions`) is not tested here.
+/// Functions are in groups of nine elements, and a position identifier follows each group.
 pub fn function_element(format: Format, function: u32) -> usize
     ensures { result ≡ function_element format function }
 {
@@ -47,8 +41,7 @@ pub fn function_element(format: Format, function: u32) -> usize
     first_function(format) + function + function / 9
 }
 
-/// The value of a control function in a frame, 1 or 0: the first one is the lowest bit of 64. 0 if
-/// the frame has no control functions.
+/// 1 or 0; 0 if the frame has no control functions.
 pub fn function_of(frame: &Shown, function: u32) -> u64
     requires { function < 64 }
     ensures { result ≡ function_of function frame.now }
@@ -56,8 +49,7 @@ pub fn function_of(frame: &Shown, function: u32) -> u64
     (frame.fields.control.unwrap_or(0) >> function) % 2
 }
 
-/// Whether `other` is there, and a control function has the same value in it as in `frame`
-/// (`function_of`). False if it is not there.
+/// Whether `other` is there, and has a control function as `frame` has it.
 pub fn shares(other: Option<Shown>, frame: &Shown, function: u32) -> bool
     requires { function < 64 }
     ensures { result ≡ shares function other frame.now }
@@ -68,9 +60,8 @@ pub fn shares(other: Option<Shown>, frame: &Shown, function: u32) -> bool
     }
 }
 
-/// Whether the two former frames nearest to `frame` (`near`) both have a control function as
-/// `frame` has it (`shares`). They are one on each side, or the two of one side if the other has
-/// none. False if one of the two is not there.
+/// Whether the two former frames nearest to `frame` have a control function as it has it: one on
+/// each side, or two on one side if the other has none.
 pub fn is_shared(near: &Witnesses, frame: &Shown, function: u32) -> bool
     requires { function < 64 }
     ensures { result ≡ is_shared function near.now frame.now }

@@ -1,12 +1,4 @@
-//! Whether a pulse is on the curve on which the clock of two frames becomes that of two others. The
-//! clock of two frames is how long a frame period takes in the recording, by their distance and
-//! their times. If it changes evenly between two anchors, as on a tape, pulses are not on the
-//! straight line between these but on a parabola. An anchor is a pulse whose place is known: its
-//! `steps` are how many elements it is away from the pulse that is looked at, and `rise` is when it
-//! rises. Distances are in microseconds, and `periods` is how many frame periods the times of two
-//! frames are apart. Of the two frames before and the two after (`Sides`), `before` and `after` are
-//! the nearer ones. The bounds in contracts, as 2^73, only keep numbers small enough for their
-//! types; `changes_evenly` tests that of 500 periods.
+//! Whether a pulse is on the curve on which the clock of two frames becomes that of two later ones.
 
 ghost use Rattle.std.specs.Prelude.{◌≡◌, ◌≤◌, ◌<◌, ◌*◌, ◌^◌};
 ghost use Rattle.irig_codes.specs.Format.{interval_of};
@@ -21,11 +13,9 @@ use crate::turning::{Sides, changes_evenly, clock_scale, period_after, period_be
 use crate::witnesses::Witnesses;
 use irig_codes::Format;
 
-/// What `bend` divides by. From the middle of the two before to the middle of the two after, the
-/// frame period changes by `clock_difference` / `clock_scale`. `all` is twice the frame periods
-/// between these middles, so half of the change in one period is `clock_difference` /
-/// (`clock_scale` * `all`). `bend` multiplies two counts of elements, 100 to a period each: so
-/// 10,000.
+/// From the middle of the two before to that of the two after, which are `all` / 2 periods apart,
+/// the period changes by `clock_difference` / `clock_scale`. 10,000, as `bend` multiplies two
+/// counts of elements, 100 to a period each.
 fn bend_divisor(format: Format, sides: &Sides) -> u128
     requires before { periods format sides.now.before2 sides.now.before ≤ 500 }
     requires across { periods format sides.now.before sides.now.after ≤ 500 }
@@ -38,11 +28,9 @@ fn bend_divisor(format: Format, sides: &Sides) -> u128
     10_000 * (clock_scale(format, sides) * all)
 }
 
-/// How many microseconds the curve is off the straight line, rounded down, `since` elements after
-/// one anchor and `until` before the other. If each frame period is longer than the one before it
-/// by the same c, the curve is a parabola: s frame periods after one anchor and u before the other
-/// it is off by c * s * u / 2. 0 if the two before, or the two after, are less than a period apart:
-/// then `bend_divisor` is 0, and nothing can be divided by it.
+/// How many microseconds the curve is off the straight line, `since` elements after one anchor and
+/// `until` before the other. If each period is longer by c than the one before, it is a parabola: s
+/// periods after one anchor and u before the other it is off by c * s * u / 2.
 fn bend(format: Format, sides: &Sides, since: u128, until: u128) -> u128
     requires before { periods format sides.now.before2 sides.now.before ≤ 500 }
     requires across { periods format sides.now.before sides.now.after ≤ 500 }
@@ -58,8 +46,7 @@ fn bend(format: Format, sides: &Sides, since: u128, until: u128) -> u128
     }
 }
 
-/// By how many microseconds a frame period is longer by one of both clocks than by the other, times
-/// `clock_scale`.
+/// By how many microseconds the periods of both clocks differ, times `clock_scale`.
 fn clock_difference(format: Format, sides: &Sides) -> u128
     requires before { periods format sides.now.before2 sides.now.before ≤ 500 }
     requires after { periods format sides.now.after sides.now.after2 ≤ 500 }
@@ -70,10 +57,8 @@ fn clock_difference(format: Format, sides: &Sides) -> u128
     apart(period_before(format, sides), period_after(format, sides))
 }
 
-/// Takes the bend (`by`) out of a time on the curve, `micros` microseconds after the first anchor,
-/// so that it can be compared with the straight line. If the frame periods become longer, the first
-/// ones are shorter than their mean, and the curve is earlier than the line: so the bend is added.
-/// Else it is taken off; 0 if it is more than `micros`.
+/// Takes the bend out of `micros` after the first anchor. If periods become longer, the first ones
+/// are shorter than their mean, and the curve is earlier than the line: so the bend is added.
 fn straightened(format: Format, sides: &Sides, by: u128, micros: u128) -> u128
     requires before { periods format sides.now.before2 sides.now.before ≤ 500 }
     requires after { periods format sides.now.after sides.now.after2 ≤ 500 }
@@ -88,7 +73,7 @@ fn straightened(format: Format, sides: &Sides, by: u128, micros: u128) -> u128
     }
 }
 
-/// Two intervals, in microseconds: the most that a curve may bend, which is this project's own.
+/// The most that a curve may bend, in microseconds: this project's own.
 fn two_intervals(format: Format) -> u128
     ensures value { result ≡ 2 * interval_of format.kind }
     ensures small { result < 2 ^ 19 }
@@ -96,11 +81,8 @@ fn two_intervals(format: Format) -> u128
     2 * u128::from(format.interval())
 }
 
-/// Whether a time (`rise`) is on the curve between two anchors, to a tenth of an interval. The bend
-/// is taken out, and what is left has to be on the straight line (`is_straight`). False if the
-/// clock does not change evenly, is far off, or is seen over too many periods (`changes_evenly`),
-/// or if the curve bends by more than two intervals. A rise before the first anchor counts as at
-/// it.
+/// Whether `rise` is on the curve between two anchors, to a tenth of an interval: the clock changes
+/// evenly (`changes_evenly`), and without the bend the rise is on the straight line.
 fn is_on_curve_by(format: Format, sides: &Sides, before: &Anchor, rise: u64, after: &Anchor) -> bool
     requires { (before.now.steps ≤ 2 ^ 17) × (after.now.steps ≤ 2 ^ 17) }
     ensures { result ≡ is_on_curve_by format sides.now before.now rise after.now }
@@ -116,9 +98,7 @@ fn is_on_curve_by(format: Format, sides: &Sides, before: &Anchor, rise: u64, aft
     is_straight(format, before, micros, after)
 }
 
-/// Whether a time (`rise`) is on the curve between two anchors (`before`, `after`), which follows
-/// from the clocks of the four nearest frames in `near` (`is_on_curve_by`). False if one of the
-/// four is not there.
+/// Whether `rise` is on the curve by the four frames in `near`; false if one of them is not there.
 pub fn is_on_curve(
     format: Format,
     near: &Witnesses,

@@ -1,8 +1,4 @@
-//! Which of the frames next to a place are heard: those that may bear out a frame there. Two frames
-//! contradict each other (not `allows`) if they are near enough for their distance to say how many
-//! frame periods it is, and their times say another number. `Witnesses` has two frames of each side
-//! of the place: `before2` and `before`, the nearer one last, and `after` and `after2`, the nearer
-//! one first. One that is not there is `None`.
+//! Which of the frames next to a place are heard: those that may bear out a frame there.
 
 ghost use Rattle.std.specs.Prelude.{◌≡◌};
 ghost use Rattle.irig_safety.specs.Heard.{heard, is_disputed, is_overruled, witnesses};
@@ -12,8 +8,7 @@ use crate::shown::Shown;
 use crate::witnesses::Witnesses;
 use irig_codes::Format;
 
-/// Whether a frame is overruled: `before` and `after` contradict it, and do not contradict each
-/// other. False if one of the three is not there.
+/// Whether `before` and `after` contradict a frame, and do not contradict each other.
 fn is_overruled(
     format: Format,
     before: Option<Shown>,
@@ -32,9 +27,7 @@ fn is_overruled(
     }
 }
 
-/// Whether one side of a place has no frame (`opposite` is its nearest), and the two frames of the
-/// other side, `first` and then `second`, contradict each other. False if one of these two is not
-/// there.
+/// Whether one side has no frame (`opposite`), and the two of the other contradict each other.
 fn is_disputed(
     format: Format,
     opposite: Option<Shown>,
@@ -49,7 +42,6 @@ fn is_disputed(
     }
 }
 
-/// The frames next to a place, in the order of their rises: two before it and two after it.
 fn witnesses(
     before2: Option<Shown>,
     before: Option<Shown>,
@@ -66,10 +58,8 @@ fn witnesses(
     }
 }
 
-/// The frames next to a place that are heard. If just one of the two nearest is overruled
-/// (`is_overruled`), it is left out, and the next one on its side replaces it. If one side has no
-/// frame, and the two of the other contradict each other (`is_disputed`), none is heard. Else all
-/// are, also if both nearest are overruled.
+/// If just one of the two nearest is overruled, the next one on its side replaces it. None is heard
+/// if one side has no frame and the two of the other are disputed.
 pub fn heard(format: Format, near: &Witnesses) -> Witnesses
     ensures { result
         ≡ heard format near.now.before2 near.now.before near.now.after near.now.after2 }

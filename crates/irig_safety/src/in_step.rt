@@ -1,8 +1,4 @@
-//! Which recorded pulses are in step with those next to them, and what is in the place of one. A
-//! pulse is in step if the two before it, it and the two after it follow each other by one index
-//! count interval, each to a tenth of an interval: noise is seldom so. A pulse is loose if
-//! it is in step and in no frame that read well. Places and markers count from 0: a marker is the
-//! place of a frame's first pulse, and a frame has 100 pulses. Rises are in microseconds.
+//! Which recorded pulses are in step with those next to them, and what is in the place of one.
 
 ghost use Rattle.std.specs.Prelude.{◌≡◌, ◌≤◌, ◌-◌, ◌+◌, ◌++◌, IfOk, OnOk, length, min};
 ghost use Rattle.irig_safety.specs.InStep.{go_on, is_in_place, is_in_step, is_step, loose_of};
@@ -12,9 +8,8 @@ use irig_codes::Format;
 use irig_recording::Pulse;
 use std::alloc::{AllocError, Global};
 
-/// The rises of the loose pulses of a recording, in their order; none if frames may move, since
-/// what is at another time then is no loss. `markers` has the frames that read well. `Err` means
-/// that memory ran out.
+/// The rises of the loose pulses: in step, and in no frame that read well (`markers`). None if
+/// frames may move, since what is at another time then is no loss.
 pub fn loose_of(
     alloc: Global,
     moved: bool,
@@ -37,8 +32,6 @@ pub fn loose_of(
     Ok(loose)
 }
 
-/// The place after the 100 pulses of the frame with this marker; `count`, which is how many pulses
-/// there are, if it is not above that place.
 fn after_frame(marker: usize, count: usize) -> usize
     ensures { result ≡ min (marker + 100) count }
 {
@@ -49,7 +42,6 @@ fn after_frame(marker: usize, count: usize) -> usize
     }
 }
 
-/// Adds the rises of the pulses from a place up to another that are in step to `steps`.
 fn add_steps(
     format: Format,
     pulses: &[Pulse],
@@ -67,7 +59,6 @@ fn add_steps(
     Ok(())
 }
 
-/// Adds a rise to `steps` if its pulse is in step (`so`). Else nothing changes.
 fn add_if(steps: &mut Vec<u64>, so: bool, rise: u64) -> Result<(), AllocError>
     ensures { OnOk result (steps.new.items ≡ steps.old.items ++ step_if so rise) }
 {
@@ -77,7 +68,7 @@ fn add_if(steps: &mut Vec<u64>, so: bool, rise: u64) -> Result<(), AllocError>
     Ok(())
 }
 
-/// Whether the pulse at a place is in step. False for the first two and the last two.
+/// False for the first two and the last two.
 fn is_in_step(format: Format, pulses: &[Pulse], place: usize) -> bool
     ensures { result ≡ is_in_step format pulses.now place }
 {
@@ -88,7 +79,6 @@ fn is_in_step(format: Format, pulses: &[Pulse], place: usize) -> bool
         && go_on(format, pulses, place)
 }
 
-/// Whether the two pulses after the one at a place follow it and each other by one interval.
 fn go_on(format: Format, pulses: &[Pulse], place: usize) -> bool
     requires { place + 2 ≤ length pulses.now }
     ensures { result ≡ go_on format pulses.now place }
@@ -112,8 +102,7 @@ fn rise_at(pulses: &[Pulse], place: usize) -> u64
     }
 }
 
-/// Whether `other` is one index count interval after `one`, to a tenth of it, which is how far two
-/// in step may be off. It is this project's own.
+/// An interval, to a tenth of it, is how far two in step may be apart: this project's own.
 fn is_step(format: Format, one: u64, other: u64) -> bool
     ensures { result ≡ is_step format one other }
 {
@@ -122,8 +111,8 @@ fn is_step(format: Format, one: u64, other: u64) -> bool
     9 * interval <= distance && distance <= 11 * interval
 }
 
-/// Whether a pulse is in the place of a recorded one that rose at a time: it rises then, to a tenth
-/// of an interval, or it falls then. The second is so if the recording was turned over there.
+/// Whether a pulse rises when a recorded one did, to a tenth of an interval, or falls then, as it
+/// does if the recording was turned over there.
 pub fn is_in_place(format: Format, pulse: Pulse, time: u64) -> bool
     ensures { result ≡ is_in_place format pulse time }
 {

@@ -1,11 +1,4 @@
-//! Whether a frame that read well, with nothing wrong in it, and is another one now, is mended by
-//! that. `former` is the frame as it was, and `frame` as it is now. `near` is the former frames
-//! next to it, two on each side: `before` and `after` are the nearer ones, and one that is not
-//! there is `None`. `others` is what is known besides: `frames` of other recordings of the same
-//! code, and which pulses are not as wide as others. Two frames contradict each other if they are
-//! near enough for their distance to say how many frame periods it is, and their times say another
-//! number (`allows` is false). Frames bear out another one if they have its time there
-//! (`is_borne`).
+//! Whether a frame that read well (`former`), and is another one now (`frame`), is mended by that.
 
 ghost use Rattle.std.specs.Prelude.{◌≡◌, ◌↔◌, IsTrue};
 ghost use Rattle.irig_safety.specs.Mended.{Mends, contradicts_from, contradicts_to};
@@ -20,11 +13,9 @@ use crate::terms::Others;
 use crate::witnesses::{Witnesses, is_borne};
 use irig_codes::Format;
 
-/// Whether the frame that is there now (`frame`) mends the former one. Either its time was wrong
-/// and now is right (`is_time_mended`), or only control functions changed, and now are right
-/// (`is_control_mended`). Other recordings (`others`) have to confirm two things: the time of the
-/// first or the last frame, and control functions, unless both frames next to it have just these.
-/// Else they are not asked.
+/// Whether the time was wrong and now is right, or only control functions changed, and now are
+/// right. Other recordings are asked about the time of the first or the last frame, and about
+/// functions that its neighbours do not both have.
 pub fn mends(
     format: Format,
     others: &Others,
@@ -39,9 +30,7 @@ pub fn mends(
         || is_control_mended(format, others, near, former, frame)
 }
 
-/// Whether the time of a frame was wrong and is mended. For one between two others the frames next
-/// to it decide alone (`is_mended_between`). For the first or the last one another recording has to
-/// confirm what they say (`is_mended_at_end`).
+/// Between two others the frames next to it decide; else another recording has to confirm it.
 fn is_time_mended(
     format: Format,
     others: &Others,
@@ -56,9 +45,8 @@ fn is_time_mended(
         || is_mended_at_end(format, others, near, former, frame)
 }
 
-/// Whether the time of a frame between two others was wrong and is mended: the nearest one on each
-/// side contradicts what it was (`former`), and the frames next to it bear out what it is now
-/// (`frame`). False if one side has no frame: such a one is left to `is_mended_at_end`.
+/// Whether the nearest on each side contradict the former time, and the frames bear out the new
+/// one.
 fn is_mended_between(format: Format, near: &Witnesses, former: &Shown, frame: &Shown) -> bool
     ensures { result ≡ is_mended_between format near.now.before2 near.now.before former.now
         near.now.after near.now.after2 frame.now }
@@ -73,11 +61,9 @@ fn is_mended_between(format: Format, near: &Witnesses, former: &Shown, frame: &S
     }
 }
 
-/// Whether the time of the first or the last frame was wrong, and is mended: the two next to it
-/// contradict what it was (`is_refuted` of `former`), and bear out what it is now (`is_borne` of
-/// `frame`). If the sender's clock was set there, the recording alone would look the same. So
-/// another recording has to have the new time, and none the former one (`is_among`). False if both
-/// sides have frames, or one of the two is not there.
+/// Whether the two next to the first or the last frame contradict the former time and bear out the
+/// new one. As a clock that was set would look the same, another recording has to have the new
+/// time, and none the former one.
 fn is_mended_at_end(
     format: Format,
     others: &Others,
@@ -94,9 +80,7 @@ fn is_mended_at_end(
         && !is_among(others.frames.as_slice(), former)
 }
 
-/// Whether a frame is the first or the last, so that one side of it has no frame, and the two
-/// nearest on the other side contradict it. False if one of these two is not there, or both sides
-/// have frames.
+/// Whether one side of a frame is empty, and the two nearest on the other side contradict it.
 fn is_refuted(format: Format, near: &Witnesses, former: &Shown) -> bool
     ensures { result ≡ is_refuted format near.now.before2 near.now.before former.now near.now.after
         near.now.after2 }
@@ -114,7 +98,6 @@ fn is_refuted(format: Format, near: &Witnesses, former: &Shown) -> bool
     }
 }
 
-/// Whether there is a frame before `frame`, and it contradicts `frame`. False if there is none.
 fn contradicts_from(format: Format, before: Option<Shown>, frame: &Shown) -> bool
     ensures { result ≡ contradicts_from format before frame.now }
 {
@@ -124,7 +107,6 @@ fn contradicts_from(format: Format, before: Option<Shown>, frame: &Shown) -> boo
     }
 }
 
-/// Whether there is a frame after `frame`, and it contradicts `frame`. False if there is none.
 fn contradicts_to(format: Format, frame: &Shown, after: Option<Shown>) -> bool
     ensures { result ≡ contradicts_to format frame.now after }
 {

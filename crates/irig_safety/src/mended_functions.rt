@@ -1,14 +1,4 @@
-//! Whether the control functions of a frame that read well, which are others now, are mended by
-//! that. A frame reads well if nothing is wrong in it. `former` is the frame as it was, and `frame`
-//! as it is now. `near` is the former frames next to it: `before` and `after` are the nearer ones,
-//! and one that is not there is `None`. `others` is what is known besides: `frames` of other
-//! recordings of the same code, frames of these recordings in which no pulse of a control function
-//! is odd (`even`), and the control functions of this recording whose pulses are odd (`odd`). A
-//! pulse is odd if it is not as wide as the others of its class in its frame, so damage made it.
-//! Control functions count from 0, and are the bits of a `u64`, so a number is below 64. The parity
-//! of a frame is whether its ones up to element 75 are odd in number or even: some codes keep it
-//! the same in each frame. Two frames contradict each other if their distance says how many frame
-//! periods it is, and their times say another number.
+//! Whether control functions of a frame that read well, which are others now, are mended by that.
 
 ghost use Rattle.std.specs.Prelude.{◌≡◌, ◌↔◌, ◌<◌, ◌⊎◌, IsTrue};
 ghost use Rattle.irig_safety.specs.MendedFunctions.{AreFunctionsMended, HasControlOfBoth};
@@ -25,10 +15,8 @@ use crate::terms::Others;
 use crate::witnesses::{Witnesses, allows_from, allows_to};
 use irig_codes::{Fields, Format};
 
-/// Whether a frame is the former one but for its control functions, and these are mended, in one of
-/// two ways. Either both frames next to it have just these: then no other recording is asked
-/// (`has_control_of_both`). Or each one that changed is mended for itself, which most frames of
-/// other recordings with the frame's time have to confirm (`has_control_of_most`).
+/// Whether only control functions changed, and both frames next to it have just these, or each one
+/// that changed is mended for itself.
 pub fn is_control_mended(
     format: Format,
     others: &Others,
@@ -43,9 +31,7 @@ pub fn is_control_mended(
         || has_control_of_most(format, others, near, former, frame)
 }
 
-/// Whether a frame is the former one but for its control functions, and has just those that both
-/// frames next to it have. It does not matter which functions changed. False if anything else
-/// changed, or one side has no frame.
+/// Whether only control functions changed, and both frames next to it have just these.
 fn has_control_of_both(near: &Witnesses, former: &Shown, frame: &Shown) -> bool
     ensures { IsTrue result
         ↔ HasControlOfBoth near.now.before former.now near.now.after frame.now }
@@ -59,8 +45,7 @@ fn has_control_of_both(near: &Witnesses, former: &Shown, frame: &Shown) -> bool
     }
 }
 
-/// Whether two frames both have just these control functions; if `control` is `None`, whether
-/// neither has any.
+/// `None` is no control functions at all.
 fn both_have(one: &Shown, other: &Shown, control: Option<u64>) -> bool
     ensures { IsTrue result
         ↔ (one.now.fields.control ≡ control) × (other.now.fields.control ≡ control) }
@@ -68,9 +53,8 @@ fn both_have(one: &Shown, other: &Shown, control: Option<u64>) -> bool
     one.fields.control == control && other.fields.control == control
 }
 
-/// Whether a frame is the former one but for some control functions, and each of these is mended:
-/// other recordings confirm it, and something here says so too (`is_function_mended`). False if
-/// anything else changed.
+/// Whether only control functions changed, and other recordings and something here confirm each
+/// one.
 fn has_control_of_most(
     format: Format,
     others: &Others,
@@ -85,7 +69,6 @@ fn has_control_of_most(
         && are_functions_mended(format, others, near, former, frame)
 }
 
-/// Whether each control function of a frame is as it was, or mended (`is_function_mended`).
 fn are_functions_mended(
     format: Format,
     others: &Others,
@@ -104,11 +87,8 @@ fn are_functions_mended(
     true
 }
 
-/// Whether a control function (`function`) is as it was, or mended. It is mended if more frames of
-/// other recordings with the time of `frame` have it as it is now than otherwise (`is_told`), and
-/// something here says so too. That is one of three: both frames next to `frame` are there and have
-/// it so (`shares`), or the parity says so (`is_by_parity`), or its pulse in the former frame was
-/// odd (`is_by_width`).
+/// Whether a control function is as it was or mended: more frames of other recordings have it so
+/// than otherwise, and both neighbours have it so, or the parity or the odd pulse says so.
 fn is_function_mended(
     format: Format,
     others: &Others,
@@ -128,9 +108,8 @@ fn is_function_mended(
                 || is_by_width(others, former, frame, function))
 }
 
-/// Whether exactly one control function changed, and this gave the frame the parity that frames of
-/// other recordings have (`is_parity_mended`). Also no frame next to it may contradict its time as
-/// it is now; a side without a frame does not (`allows_from`, `allows_to`).
+/// Whether just one function changed, which gave the frame the parity of other recordings' frames,
+/// and no neighbour contradicts its time.
 fn is_by_parity(
     format: Format,
     others: &Others,
@@ -146,11 +125,8 @@ fn is_by_parity(
         && is_parity_mended(format, others.frames.as_slice(), former, frame)
 }
 
-/// Whether the pulse of a control function (`function`) of the former frame was odd (the list `odd`
-/// has it), and sound frames of other recordings confirm the function as `frame` has it. These are
-/// the list `even`: no pulse of theirs is odd. Of those with the time of `frame`, more have to have
-/// the function as `frame` has it than otherwise (`is_told`). False if as many have it otherwise,
-/// or there are none.
+/// Whether the former pulse of a function was odd, and of the frames of other recordings without
+/// odd pulses (`even`) more have the function as `frame` has it than otherwise.
 fn is_by_width(others: &Others, former: &Shown, frame: &Shown, function: u32) -> bool
     requires { function < 64 }
     ensures { result ≡ is_by_width others.now former.now frame.now function }
@@ -159,7 +135,6 @@ fn is_by_width(others: &Others, former: &Shown, frame: &Shown, function: u32) ->
         && is_told(others.even.as_slice(), frame, function)
 }
 
-/// The frame `frame`, but with these control functions instead of its own; with `None` it has none.
 fn with_control(frame: &Shown, control: Option<u64>) -> Shown
     ensures { result ≡ with_control control frame.now }
 {

@@ -1,9 +1,4 @@
-//! Where the frames of a recording are after an edit that moves them. The former frames (`old`) are
-//! those that read well, with nothing wrong in them, before the edit, and `new` those that do after
-//! it. Places in a list count from 0. Two frames have one time here if `clock` gives the same
-//! number for them: their day and time of day are the same. Years are not compared, and second 60
-//! is the same as second 0 of the next minute. `from_time` in a contract is the rest of a list from
-//! the first frame on that has a time.
+//! Where the frames of a recording are after an edit that moves them.
 
 ghost use Rattle.std.specs.Prelude.{◌≡◌, ◌≤◌, IfOk, drop, length};
 ghost use Rattle.irig_safety.specs.Moved.{from_time, moved_in, moved_to, rest_of};
@@ -13,10 +8,8 @@ use crate::near::frame_at;
 use crate::shown::Shown;
 use std::alloc::{AllocError, Global};
 
-/// The former frames (`old`) where they are now: each at the rise of the first frame of `new` that
-/// has its time (`place_of`). Frames keep their order, so each search begins after the frame of
-/// `new` that was found last. A former frame that is not found stays where it was: `place_of` is
-/// the length of the list then, and `frame_at` is `None` there. `Err` means that memory ran out.
+/// The former frames (`old`), each at the rise of the first frame of `new` after the last one found
+/// that has its time; one that is not found stays where it was.
 pub fn moved_in(alloc: Global, old: &[Shown], new: &[Shown]) -> Result<Vec<Shown>, AllocError>
     ensures { IfOk result (λ moved. moved.items ≡ moved_in old.now new.now) }
 {
@@ -30,8 +23,7 @@ pub fn moved_in(alloc: Global, old: &[Shown], new: &[Shown]) -> Result<Vec<Shown
     Ok(moved)
 }
 
-/// The place in the list `new` of the first frame that has the time of `frame`, without its year:
-/// the first from the place `from` on. The length of the list, if none has it.
+/// The place of the first frame from `from` on that has the time of `frame`; else the length.
 fn place_of(frame: &Shown, new: &[Shown], from: usize) -> usize
     requires { from ≤ length new.now }
     ensures within { result ≤ length new.now }
@@ -45,8 +37,6 @@ fn place_of(frame: &Shown, new: &[Shown], from: usize) -> usize
     new.len()
 }
 
-/// A former frame where it is now: with its own fields, and the rise of `at`, the frame that has
-/// its time now. If there is no such frame, it is as it was.
 fn moved_to(frame: &Shown, at: Option<Shown>) -> Shown
     ensures { result ≡ moved_to frame.now at }
 {
@@ -59,9 +49,7 @@ fn moved_to(frame: &Shown, at: Option<Shown>) -> Shown
     }
 }
 
-/// The place at which the next search begins. The last one began at `from`. If it found a frame,
-/// `place` is where that is, and the next begins after it. If it found none, `place` is the length
-/// of the list, and the next begins at `from` again.
+/// After the frame that was found at `place`; at `from` again if none was.
 fn search_from(new: &[Shown], place: usize, from: usize) -> usize
     requires { (place ≤ length new.now) × (from ≤ length new.now) }
     ensures within { result ≤ length new.now }

@@ -1,6 +1,4 @@
-//! The control functions of frames whose pulses are odd: not as wide as the others of their class
-//! in their frame. Control functions count from 0. A frame's marker is its first pulse, by its
-//! place among the pulses, from 0.
+//! The control functions of frames whose pulses are odd: not as wide as others.
 
 ghost use Rattle.std.specs.Prelude.{◌≡◌, ◌++◌, ◌<◌, IfOk, OnOk};
 ghost use Rattle.irig_safety.specs.OddFunctions.{has_odd, is_odd_of, odd_if, odd_of};
@@ -20,9 +18,7 @@ pub struct Odd {
     pub function: u32,
 }
 
-/// The control functions of a frame (`frame`, with its marker among `pulses`) whose pulses are odd
-/// (`is_odd`), in the order of their numbers. Empty if none is, or its format carries none. `Err`
-/// means that memory ran out.
+/// The control functions of a frame whose pulses are odd, by the pulses from its `marker` on.
 pub fn odd_of(
     alloc: Global,
     format: Format,
@@ -41,8 +37,6 @@ pub fn odd_of(
     Ok(odd)
 }
 
-/// Adds a control function of a frame to `odd` if its pulse is odd (`is_odd_pulse`). Else nothing
-/// changes. `Err` means that memory ran out.
 fn add_if(
     odd: &mut Vec<Odd>,
     is_odd_pulse: bool,
@@ -61,8 +55,7 @@ fn add_if(
     Ok(())
 }
 
-/// Whether `odd` has this control function of a frame that rises when `frame` does and has its
-/// time: its pulse was odd (`is_odd_of`).
+/// Whether `odd` has this control function of a frame with the rise and the time of `frame`.
 pub fn has_odd(odd: &[Odd], frame: &Shown, function: u32) -> bool
     ensures { result ≡ has_odd odd.now frame.now function }
 {
@@ -74,9 +67,7 @@ pub fn has_odd(odd: &[Odd], frame: &Shown, function: u32) -> bool
     false
 }
 
-/// Whether `odd` is the odd pulse of this control function (`function`) of this frame: its frame
-/// rises when `frame` does and has the same time (`is_of_time`). The rise alone is not enough: if
-/// frames may move, another frame can begin when the one in `odd` did.
+/// The rise alone is not enough: if frames may move, another frame can begin when this one did.
 fn is_odd_of(odd: &Odd, frame: &Shown, function: u32) -> bool
     ensures { result ≡ is_odd_of odd.now frame.now function }
 {

@@ -1,7 +1,4 @@
-//! What is known of a recording as it was opened. Its frames that read well, with nothing wrong in
-//! them, are the former ones. A frame's marker is its first pulse, by its place among the pulses,
-//! from 0; the pulse of element k is k places after it. The class of a pulse is what its width
-//! means; a bad width has none.
+//! What is known of a recording as it was opened.
 
 ghost use Rattle.std.specs.Prelude.{◌≡◌, ◌↔◌, ◌<◌, IsTrue, get_or};
 ghost use Rattle.std.specs.Prelude.{true};
@@ -21,12 +18,8 @@ use irig_codes::Format;
 use irig_recording::Pulse;
 use std::marker::Model;
 
-/// What is known of a recording as it was opened: the frames that read well, with nothing wrong in
-/// them, the places of their markers, from 0, and all pulses, each of which rises and falls no
-/// earlier than the one before it. And by what else repairs are judged: whether frames may move
-/// and frames of other recordings (`Terms`), the control functions whose pulses are odd (`odd`):
-/// not as wide as the others of their class in their frame, and the rises of the loose pulses
-/// (`loose`): in step, and in no frame that read well.
+/// What is known of a recording as it was opened: its former frames, their markers and its pulses;
+/// whether frames may move; what else repairs are judged by; and the rises of loose pulses.
 #[derive(Drop)]
 pub struct Original {
     frames: Vec<Shown>,
@@ -57,10 +50,8 @@ impl Model for Original {
 }
 
 impl Original {
-    /// A recording with these frames and pulses, the control functions whose pulses are odd
-    /// (`odd`), these loose pulses and these terms. `markers` has the marker of each of `frames`,
-    /// at the same place. Pulses have to rise in order, and to fall in order: the searches need
-    /// both.
+    /// `markers` has the marker of each of `frames`. The searches need that pulses rise and fall in
+    /// order.
     pub fn new(
         frames: Vec<Shown>,
         markers: Vec<usize>,
@@ -99,9 +90,8 @@ impl Original {
         self.moved
     }
 
-    /// Whether other recordings confirm a control function (`function`, its bit in a `u64`) of
-    /// `frame`: of their frames with the time of `frame`, more have it as `frame` has it than
-    /// otherwise. False if as many have it otherwise, or there are none.
+    /// Whether more frames of other recordings with the time of `frame` have a control function as
+    /// `frame` has it than otherwise.
     pub fn is_told(&self, frame: &Shown, function: u32) -> bool
         requires { function < 64 }
         ensures { result ≡ is_told function self.now.terms.others frame.now }
@@ -109,8 +99,7 @@ impl Original {
         is_told(self.others.frames.as_slice(), frame, function)
     }
 
-    /// What is known of control functions besides the frames of the recording: what frames of
-    /// other recordings of the same code have, and which pulses of this one are odd.
+    /// Frames of other recordings of the same code, and which pulses of this one are odd.
     pub fn others(&self) -> &Others
         ensures { result.now ≡ others_of self.now }
     {
@@ -124,7 +113,7 @@ impl Original {
         self.frames.as_slice()
     }
 
-    /// The marker of the frame at a place of `frames`, from 0; 0 if there is no such frame.
+    /// The marker of the frame at a place of `frames`; 0 if there is no such frame.
     pub fn marker(&self, place: usize) -> usize
         ensures { result ≡ get_or self.now.markers place 0 }
     {
@@ -141,16 +130,15 @@ impl Original {
         self.pulses.as_slice()
     }
 
-    /// The rises of the loose pulses, in microseconds, in rising order.
+    /// In microseconds, in rising order.
     pub fn loose(&self) -> &[u64]
         ensures { result.now ≡ self.now.loose }
     {
         self.loose.as_slice()
     }
 
-    /// When the pulse of an element, from 0, of the frame with this marker rises, in microseconds;
-    /// 0 if there is no such pulse. The test subtracts, as the sum of marker and element could be
-    /// too large for its type.
+    /// When an element of the frame with this marker rises, in microseconds; 0 if it is not there.
+    /// The test subtracts, as the sum could be too large.
     pub fn rise(&self, marker: usize, element: usize) -> u64
         ensures { result ≡ rise_in self.now.pulses marker element }
     {
@@ -162,12 +150,8 @@ impl Original {
         }
     }
 
-    /// Whether `pulse` is an anchor: its place was recorded, so other places are measured from it.
-    /// False for `None`. There are two kinds. One rises when a pulse of the recording does; its
-    /// fall does not matter. The other rises when one falls and falls when one rises, as a gap
-    /// does that became a pulse when the recording was turned over. `place`, from 0, is the pulse
-    /// of the recording that is looked at first, to save a search. It becomes the next one to look
-    /// at: the answer does not depend on it.
+    /// Whether `pulse` is an anchor, because it is recorded, or was a gap that became a pulse when
+    /// the recording was turned over. `place` is looked at first, to save a search.
     pub fn holds(&self, pulse: Option<Pulse>, place: &mut usize) -> bool
         ensures { result ≡ is_anchor self.now.pulses pulse }
     {
@@ -177,18 +161,14 @@ impl Original {
         }
     }
 
-    /// Whether `pulse`, which may be an edited one, is as recorded: a recorded pulse of the same
-    /// class rises within a tenth of an interval of it. Two bad widths count as one class. `false`
-    /// says that not any class will do (`has_alike`).
+    /// Whether a recorded pulse of the same class rises within a tenth of an interval of `pulse`.
     pub fn has(&self, format: Format, pulse: Pulse) -> bool
         ensures { IsTrue result ↔ IsRecorded format self.now.pulses pulse }
     {
         has_alike(format, false, self.pulses.as_slice(), pulse)
     }
 
-    /// Whether a recorded pulse that has a class rises within half an interval of `pulse`: up to
-    /// there it is nearest to the place of the same element. False if all that rise there have bad
-    /// widths. `true` says that any class will do (`has_alike`).
+    /// Whether a recorded pulse that has a class rises within half an interval of `pulse`.
     pub fn has_any(&self, format: Format, pulse: Pulse) -> bool
         ensures { IsTrue result ↔ IsNear format true self.now.pulses pulse }
     {

@@ -1,7 +1,4 @@
-//! Which rises and falls the recorded pulses have. They are asked for in rising order most of the
-//! time, so the place that is looked at first saves a search. Places count from 0, and times are in
-//! microseconds. An anchor is a pulse whose place was recorded, so that other places are measured
-//! from it.
+//! Which rises and falls the recorded pulses have.
 
 ghost use Rattle.std.specs.Prelude.{◌≡◌, ◌<◌, ◌≤◌, ℕ, get_or, length, Some};
 ghost use Rattle.std.specs.List.Sorted.{IsNonDecreasingBy};
@@ -11,10 +8,8 @@ ghost use Rattle.irig_safety.specs.{Rises.rise_or};
 
 use irig_recording::Pulse;
 
-/// Whether one of some pulses rises at a time (`time`). `place` is looked at first; the answer does
-/// not depend on it. Then `place` becomes the next one to look at. That is the place after the
-/// pulse that was found. If none was found, it is the place of the first that rises later, or how
-/// many there are, if none does.
+/// Whether a pulse rises at a time. `place` is looked at first, and becomes the next to look at, as
+/// times are asked for in rising order; the answer does not depend on it.
 pub fn has_rise(pulses: &[Pulse], time: u64, place: &mut usize) -> bool
     requires { IsNonDecreasingBy (λ (p : SomePulse). p.rise) pulses.now }
     ensures { result ≡ is_rise pulses.now time }
@@ -25,10 +20,7 @@ pub fn has_rise(pulses: &[Pulse], time: u64, place: &mut usize) -> bool
     found
 }
 
-/// The place of the first of some pulses that does not rise before a time; how many there are, if
-/// all do. `place` is looked at first: it is the one if the pulse there does not rise before the
-/// time and the one before it, if any, does. Else a search finds it, since the pulses are in rising
-/// order.
+/// The place of the first pulse that does not rise before a time; `place` is looked at first.
 fn first_rise(pulses: &[Pulse], time: u64, place: usize) -> usize
     requires { IsNonDecreasingBy (λ (p : SomePulse). p.rise) pulses.now }
     ensures before { (j : ℕ) (d : SomePulse) → j < result → j < length pulses.now
@@ -45,8 +37,7 @@ fn first_rise(pulses: &[Pulse], time: u64, place: usize) -> usize
     pulses.partition_point(|pulse| pulse.rise < time)
 }
 
-/// Whether one of some pulses falls at a time (`time`). `place` is looked at first (`first_fall`);
-/// the answer does not depend on it.
+/// Whether a pulse falls at a time; `place` is looked at first.
 pub fn has_fall(pulses: &[Pulse], time: u64, place: usize) -> bool
     requires { IsNonDecreasingBy (λ (p : SomePulse). p.fall) pulses.now }
     ensures { result ≡ is_fall pulses.now time }
@@ -55,10 +46,7 @@ pub fn has_fall(pulses: &[Pulse], time: u64, place: usize) -> bool
     first < pulses.len() && pulses[first].fall == time
 }
 
-/// The place of the first of some pulses that does not fall before a time; how many there are, if
-/// all do. `place` is looked at first: it is the one if the pulse there does not fall before the
-/// time and the one before it, if any, does. Else a search finds it, since the pulses fall in
-/// order.
+/// The place of the first pulse that does not fall before a time, in the same way.
 fn first_fall(pulses: &[Pulse], time: u64, place: usize) -> usize
     requires { IsNonDecreasingBy (λ (p : SomePulse). p.fall) pulses.now }
     ensures before { (j : ℕ) (d : SomePulse) → j < result → j < length pulses.now
@@ -75,10 +63,8 @@ fn first_fall(pulses: &[Pulse], time: u64, place: usize) -> usize
     pulses.partition_point(|pulse| pulse.fall < time)
 }
 
-/// Whether a pulse is an anchor. It is if it rises when a recorded one does. It also is if it rises
-/// when one falls and falls when one rises, as a gap does that became a pulse when the recording
-/// was turned over (high for low). `place` is looked at first, and the search of a rise moves it on
-/// (`has_rise`). The two other searches begin at the new place and leave it.
+/// Whether a pulse rises when a recorded one does, or rises when one falls and falls when one
+/// rises, as a gap does that became a pulse when the recording was turned over.
 pub fn is_anchor(recorded: &[Pulse], pulse: Pulse, place: &mut usize) -> bool
     requires rising { IsNonDecreasingBy (λ (p : SomePulse). p.rise) recorded.now }
     requires falling { IsNonDecreasingBy (λ (p : SomePulse). p.fall) recorded.now }
@@ -88,8 +74,7 @@ pub fn is_anchor(recorded: &[Pulse], pulse: Pulse, place: &mut usize) -> bool
         || has_fall(recorded, pulse.rise, *place) && is_rise(recorded, pulse.fall, *place)
 }
 
-/// Whether one of some pulses rises at a time. `place` is looked at first. It stays as it is, as
-/// `has_rise` moves on only the copy `at`.
+/// As `has_rise`, but `place` stays.
 fn is_rise(recorded: &[Pulse], time: u64, place: usize) -> bool
     requires { IsNonDecreasingBy (λ (p : SomePulse). p.rise) recorded.now }
     ensures { result ≡ is_rise recorded.now time }

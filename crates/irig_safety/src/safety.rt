@@ -1,19 +1,5 @@
-//! Whether frames are safe, and why they are not. A frame reads well if nothing is wrong in it.
-//! `old` is the frames that read well at first (the former ones) and `new` those that do now, both
-//! in the order of their rises. A frame leads to a later one if the later one's time is whole frame
-//! periods later and it rises that long after, nearly. A frame is borne out if the former ones next
-//! to it have its time there. A new frame mends a former one (`mends`) if that was wrong and the
-//! new one is right, by the frames next to it or by `others`: other recordings, and odd pulses,
-//! which are not as wide as the others of their class.
-//!
-//! The new frames are judged in order. A former frame is passed if a new frame that was judged
-//! begins when it does; `kept` counts these. The faults: `Lost` if no new frame begins when a
-//! former one does, `Changed` if one does that is not it and does not mend it, `Unsupported` if a
-//! new one that begins elsewhere is not borne out, `Alone` if there is no former one and the new
-//! ones do not bear each other out.
-//!
-//! In clauses `behind` is the frame before a place, `rest` any new frames after one, and `found` or
-//! `why`, an `Option`, their fault, if any, by the former from a place on (`JudgedAt`).
+//! Whether frames are safe, and why they are not: the new ones are judged in order by the former
+//! ones.
 
 ghost use Rattle.std.specs.Prelude.{◌≡◌, ◌↔◌, ◌-◌, ◌≤◌, ◌+◌, ◌∷◌, List, IsTrue, None, Option, Some};
 ghost use Rattle.std.specs.Prelude.{Err, IfErr, IfOk, Ok, OnErr, OnOk, drop, if◌then◌else◌, length};
@@ -33,10 +19,8 @@ use crate::terms::Others;
 use crate::witnesses::{Witnesses, is_borne};
 use irig_codes::Format;
 
-/// Whether the frames that read well now (`new`) are safe, by those that did at first (`old`) and
-/// by other recordings. If not, `Err` is the first fault in the order of their rises
-/// (`check_from`). If none read well at first, the only fault is `Alone`: the new ones do not bear
-/// each other out (`are_of_themselves`).
+/// Whether the frames that read well now (`new`) are safe by those that did at first (`old`) and by
+/// `others`. `Err` is the first fault; `Alone` if none read well at first.
 pub fn check_safe(
     format: Format,
     others: &Others,
@@ -57,15 +41,15 @@ pub fn check_safe(
     }
 }
 
-/// Whether the new frames bear each other out: none reads well now, or at least three do, each of
-/// which leads to the next. Three is this project's own choice: two can fit by chance.
+/// None, or at least three, each of which leads to the next: this project's own, as two can fit by
+/// chance.
 fn are_of_themselves(format: Format, new: &[Shown]) -> bool
     ensures { IsTrue result ↔ AreOfThemselves format new.now }
 {
     new.is_empty() || new.len() >= 3 && lead_on(format, new)
 }
 
-/// Whether each frame leads to the next. True of fewer than two.
+/// True of fewer than two.
 fn lead_on(format: Format, frames: &[Shown]) -> bool
     ensures { IsTrue result ↔ LeadOn format frames.now }
 {
@@ -77,9 +61,7 @@ fn lead_on(format: Format, frames: &[Shown]) -> bool
     true
 }
 
-/// Whether each new frame is a former one, mends one, or is borne out (`passed`), and each former
-/// one is passed. If not, the first fault; `Lost` if all new ones are in order and a former one is
-/// left.
+/// The first fault of the new frames; `Lost` if they are in order and a former one is left.
 fn check_from(format: Format, others: &Others, old: &[Shown], new: &[Shown]) -> Result<(), Fault>
     ensures safe { OnOk result (IsSafeFrom format others.now None None old.now new.now) }
     ensures fault { IfErr result (FaultFrom format others.now None None old.now new.now) }
@@ -97,11 +79,9 @@ fn check_from(format: Format, others: &Others, old: &[Shown], new: &[Shown]) -> 
     }
 }
 
-/// Judges one more new frame, `frame`. `kept` is how many former ones are passed so far, `Ok` is
-/// how many are with `frame`, and `Err` is why it is not safe. If the next former frame begins
-/// later, or none is left, `frame` is between former ones or after them (`passed_between`). If the
-/// next one begins earlier, no new frame begins when it does: it is `Lost`. If both begin at the
-/// same time, one more is passed if the former one stays (`stays`), and else it is `Changed`.
+/// Judges one more new frame. `kept` is how many former ones are passed so far, `Ok` how many are
+/// then. A former one that begins earlier than `frame` is `Lost`; one that begins with it stays or
+/// is `Changed`.
 fn passed(
     format: Format,
     others: &Others,
@@ -133,9 +113,7 @@ fn passed(
     }
 }
 
-/// Judges a new frame that begins when no former one does: after `kept` former ones and before the
-/// others. None is passed by it, so `Ok` is `kept`. `Unsupported` if it is not borne out by the
-/// former ones next to it (`is_borne`).
+/// Judges a frame that begins after `kept` former ones, when none does. It passes none.
 fn passed_between(format: Format, old: &[Shown], kept: usize, frame: &Shown) -> Result<usize, Fault>
     requires { kept ≤ length old.now }
     ensures { result ≡ if is_borne format (behind (kept - 1) old.now) (behind kept old.now)
@@ -149,8 +127,7 @@ fn passed_between(format: Format, old: &[Shown], kept: usize, frame: &Shown) -> 
     }
 }
 
-/// Whether the former frame at `place` of `old` (`former`) stays. `frame` begins when it does, and
-/// either is the same in all fields or mends it (`mends`), by the former ones next to it.
+/// Whether `frame`, which begins when `former` does, is the same in all fields or mends it.
 fn stays(
     format: Format,
     others: &Others,

@@ -1,6 +1,4 @@
-//! By what repairs are judged besides the recording. A frame reads well if nothing is wrong in it.
-//! The pulse of a control function is odd if it is not as wide as the others of its class in its
-//! frame.
+//! By what repairs are judged besides the recording.
 
 ghost use Rattle.std.specs.Prelude.{◌≡◌, OnOk};
 ghost use Rattle.irig_safety.specs.Terms.{with_more, without_others};
@@ -10,14 +8,13 @@ use crate::shown::Shown;
 use std::alloc::{AllocError, Global};
 use std::marker::Model;
 
-/// By what repairs are judged besides the recording.
 #[derive(Drop)]
 pub struct Terms {
     /// Whether a frame that read well may be at another time than in the recording.
     pub moved: bool,
-    /// Frames of other recordings of the same code.
+    /// Of other recordings of the same code.
     pub others: Vec<Shown>,
-    /// Frames of these recordings in which no pulse of a control function is odd.
+    /// Frames of these in which no pulse of a control function is odd.
     pub even: Vec<Shown>,
 }
 
@@ -34,7 +31,7 @@ impl Model for Terms {
 }
 
 impl Terms {
-    /// The terms without other recordings, so both lists are empty. `moved` is as in `Terms`.
+    /// Without other recordings.
     pub fn new(alloc: Global, moved: bool) -> Terms
         ensures { result ≡ without_others moved }
     {
@@ -45,9 +42,8 @@ impl Terms {
         }
     }
 
-    /// Adds frames of another recording (`others`) after those that are there, and those of its
-    /// frames in which no pulse of a control function is odd (`even`). `Err` means that memory ran
-    /// out; then some may be added.
+    /// Adds frames of another recording, and those without odd pulses (`even`). If memory runs out,
+    /// some may be added.
     pub fn add(&mut self, others: &[Shown], even: &[Shown]) -> Result<(), AllocError>
         ensures { OnOk result (self.new ≡ with_more others.now even.now self.old) }
     {
@@ -60,11 +56,9 @@ impl Terms {
 /// What is known of control functions besides the frames of the recording.
 #[derive(Drop)]
 pub struct Others {
-    /// Frames of other recordings of the same code.
     pub frames: Vec<Shown>,
-    /// Frames of these recordings in which no pulse of a control function is odd.
     pub even: Vec<Shown>,
-    /// The control functions of this recording whose pulses are odd.
+    /// Of this recording.
     pub odd: Vec<Odd>,
 }
 

@@ -1,9 +1,5 @@
 //! Whether the clock changes evenly from that of two frames to that of two later ones, as on a tape
-//! that slows down. The clock of two frames is how long a frame period takes in the recording, by
-//! their distance and their times. Of the two frames before a place and the two after it (`Sides`),
-//! `before` and `after` are the nearer ones. `distance` is in microseconds, and `periods` is how
-//! many frame periods the times of two frames are apart. The bounds in contracts, as 2^73, only
-//! keep numbers small enough for their types; `are_few` tests that of 500 periods.
+//! that slows down.
 
 ghost use Rattle.std.specs.Prelude.{◌≡◌, ◌≤◌, ◌<◌, ◌^◌, IsTrue};
 ghost use Rattle.irig_safety.specs.Calendar.{periods};
@@ -16,7 +12,7 @@ use crate::clocks::shows_any_clock;
 use crate::shown::Shown;
 use irig_codes::Format;
 
-/// The two frames before a place, the nearer one last, and the two after it.
+/// The two frames before a place, and the two after it.
 #[derive(Clone, Copy)]
 pub struct Sides {
     pub before2: Shown,
@@ -25,8 +21,7 @@ pub struct Sides {
     pub after2: Shown,
 }
 
-/// Whether each of the frames is at most 500 frame periods before the next: up to there no number
-/// below is too large for its type. That each is later than the one before it is not tested here.
+/// Up to 500 periods no number below is too large for its type.
 fn are_few(format: Format, sides: &Sides) -> bool
     ensures value { result ≡ are_few format sides.now }
     ensures before { IsTrue result → periods format sides.now.before2 sides.now.before ≤ 500 }
@@ -38,9 +33,7 @@ fn are_few(format: Format, sides: &Sides) -> bool
         && periods(format, &sides.after, &sides.after2) <= 500
 }
 
-/// How many microseconds a frame period takes by the clock of the two before, times `clock_scale`,
-/// so that nothing is divided. That is their distance times the periods of the two after (`many`),
-/// as their own periods cancel.
+/// The period by the clock of the two before, times `clock_scale`: their own periods cancel.
 pub fn period_before(format: Format, sides: &Sides) -> u128
     requires { periods format sides.now.after sides.now.after2 ≤ 500 }
     ensures value { result ≡ period_before format sides.now }
@@ -50,9 +43,7 @@ pub fn period_before(format: Format, sides: &Sides) -> u128
     distance(&sides.before2, &sides.before) * many
 }
 
-/// How many microseconds a frame period takes by the clock of the two after, times `clock_scale`,
-/// so that nothing is divided. That is their distance times the periods of the two before (`many`),
-/// as their own periods cancel.
+/// The period by the clock of the two after, times `clock_scale`.
 pub fn period_after(format: Format, sides: &Sides) -> u128
     requires { periods format sides.now.before2 sides.now.before ≤ 500 }
     ensures value { result ≡ period_after format sides.now }
@@ -62,8 +53,7 @@ pub fn period_after(format: Format, sides: &Sides) -> u128
     distance(&sides.after, &sides.after2) * many
 }
 
-/// What the periods of both clocks are multiplied by, so that they can be compared without
-/// dividing: how many frame periods the two before are apart, times how many the two after are.
+/// What both are multiplied by, so that they can be compared without dividing.
 pub fn clock_scale(format: Format, sides: &Sides) -> u128
     requires before { periods format sides.now.before2 sides.now.before ≤ 500 }
     requires after { periods format sides.now.after sides.now.after2 ≤ 500 }
@@ -75,8 +65,7 @@ pub fn clock_scale(format: Format, sides: &Sides) -> u128
 }
 
 /// Whether `before` and `after` are as far apart as the mean of both clocks says, to half an
-/// interval: they are if the clock changes evenly. Both sides are times twice `clock_scale`, so
-/// that nothing is divided.
+/// interval. Both sides are times twice `clock_scale`.
 fn is_mean(format: Format, sides: &Sides) -> bool
     requires before { periods format sides.now.before2 sides.now.before ≤ 500 }
     requires across { periods format sides.now.before sides.now.after ≤ 500 }
@@ -90,11 +79,8 @@ fn is_mean(format: Format, sides: &Sides) -> bool
     apart(found, wanted) <= scale * u128::from(format.interval())
 }
 
-/// Whether the clock changes evenly from that of the two before to that of the two after: then
-/// `before` and `after` are as far apart as the mean of both clocks says, to half an interval
-/// (`is_mean`). False if the distance of one of these pairs does not fit its times, or its clock is
-/// off by more than 8 in 100 (`shows_any_clock`). False also if `after` is not whole frame periods
-/// after `before` (`is_later`), or if a frame is more than 500 periods before the next (`are_few`).
+/// Whether the mean of both clocks fits between (`is_mean`). False if a clock is off by more than 8
+/// in 100, or a frame is more than 500 periods before the next.
 pub fn changes_evenly(format: Format, sides: &Sides) -> bool
     ensures value { result ≡ changes_evenly format sides.now }
     ensures before { IsTrue result → periods format sides.now.before2 sides.now.before ≤ 500 }

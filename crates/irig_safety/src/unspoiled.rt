@@ -1,8 +1,4 @@
-//! Whether the frames that read well, with nothing wrong in them, before an edit (`last`) still do
-//! after it (`new`). Both lists are in the order of the rises. A frame of `last` is found again if
-//! one of `new` begins when it does; what the two say is not compared. In clauses `rest` is any new
-//! frames after one, and `why`, an `Option`, their fault, if any, by those of `last` from a place
-//! on (`Finds`).
+//! Whether the frames that read well before an edit (`last`) still do after it (`new`).
 
 ghost use Rattle.std.specs.Prelude.{◌≤◌, ◌∷◌, List, Option, Some};
 ghost use Rattle.std.specs.Prelude.{IfErr, IfOk, OnErr, OnOk, drop, length};
@@ -15,8 +11,7 @@ use crate::fault::Fault;
 use crate::near::frame_at;
 use crate::shown::Shown;
 
-/// Whether each frame of `last` is found again (`found_after`). If not, `Lost` with the first one
-/// of `last` that is not.
+/// Whether one of `new` begins when each of `last` does; what they say is not compared.
 pub fn check_unspoiled(last: &[Shown], new: &[Shown]) -> Result<(), Fault>
     ensures kept { OnOk result (NoneIsSpoiled last.now new.now) }
     ensures spoiled { OnErr result (NoneIsSpoiled last.now new.now → ⊥) }
@@ -35,10 +30,8 @@ pub fn check_unspoiled(last: &[Shown], new: &[Shown]) -> Result<(), Fault>
     }
 }
 
-/// Looks at one more new frame, `frame`. `found` is how many frames of `last` are found again so
-/// far, and `Ok` is how many are with `frame`. If the next one of `last` begins when `frame` does,
-/// that is one more. If it begins later, or there is none, it is `found`. If it begins earlier, no
-/// new frame begins when it does: it is `Lost`.
+/// Looks at one more new frame: `Ok` is how many of `last` are found with it, and `Lost` the next
+/// one if that begins earlier.
 fn found_after(last: &[Shown], found: usize, frame: &Shown) -> Result<usize, Fault>
     requires { found ≤ length last.now }
     ensures within { IfOk result (λ place. place ≤ length last.now) }

@@ -1,7 +1,4 @@
-//! Whether the pulse of an element is odd: not as wide as the others of its class in its frame. The
-//! class of a pulse is what its width means. A frame's marker is its first pulse, by its place
-//! among the pulses, from 0; the pulse of element k is k places after it. Widths are in
-//! microseconds.
+//! Whether the pulse of an element is odd: not as wide as the others of its class in its frame.
 
 ghost use Rattle.std.specs.Prelude.{◌≡◌, ◌<◌, ◌≤◌, ◌+◌, ◌/◌, ◌^◌, IsTrue, false};
 ghost use Rattle.irig_codes.specs.Width.{class_of};
@@ -11,7 +8,7 @@ ghost use Rattle.irig_safety.specs.Widths.{margin_of, spread_of, width_in, width
 use irig_codes::{Element, Format, class};
 use irig_recording::Pulse;
 
-/// How many widths there are, the least and the greatest of them; 0 if there are none.
+/// How many widths there are, the least and the greatest; all 0 if there are none.
 #[derive(Clone, Copy)]
 pub struct Spread {
     pub many: usize,
@@ -19,10 +16,8 @@ pub struct Spread {
     pub most: u64,
 }
 
-/// Whether the pulse of an element is odd: at least five others of its frame have its class, and
-/// its width is farther outside the range of theirs than the margin (`is_outside`). False if fewer
-/// have its class, or it has none. If another one is like it (`is_like_another`) it is not odd, and
-/// no range is counted, which saves time.
+/// Whether at least five others of its frame have the class of this pulse, and its width is outside
+/// their range by more than the margin.
 pub fn is_odd(format: Format, pulses: &[Pulse], marker: usize, element: usize) -> bool
     ensures { result ≡ is_odd format pulses.now marker element }
 {
@@ -33,9 +28,8 @@ pub fn is_odd(format: Format, pulses: &[Pulse], marker: usize, element: usize) -
     is_outside(format.interval(), spread, width_in(pulses, marker, element))
 }
 
-/// Whether the pulse of an element is like another one of its frame (`is_like`): then it is not
-/// odd. Nearly all are, and the search for one is short. False does not mean that it is odd: then
-/// `is_odd` looks at the range.
+/// Nearly all pulses are like another one, and not odd: this saves their range. False does not mean
+/// odd.
 fn is_like_another(format: Format, pulses: &[Pulse], marker: usize, element: usize) -> bool
     ensures { IsTrue result → is_odd format pulses.now marker element ≡ false }
 {
@@ -47,10 +41,7 @@ fn is_like_another(format: Format, pulses: &[Pulse], marker: usize, element: usi
     false
 }
 
-/// Whether the pulse of the element `other` has the class of that of `element`
-/// (`is_other_of_class`), and its width to a hundredth of the interval. Then the pulse of `element`
-/// is not odd: `other` is in the range of the others, and the margin is a hundredth of the interval
-/// or more.
+/// Of the same class, and as wide to a hundredth of the interval: within the margin.
 fn is_like(format: Format, pulses: &[Pulse], marker: usize, element: usize, other: usize) -> bool
     requires { other < 100 }
     ensures { IsTrue result → is_odd format pulses.now marker element ≡ false }
@@ -63,17 +54,13 @@ fn is_like(format: Format, pulses: &[Pulse], marker: usize, element: usize, othe
         && is_other_of_class(format, pulses, marker, element, other)
 }
 
-/// Whether two widths differ by a hundredth of the interval at most. It does not matter which one
-/// is greater: of the two differences the other one is 0.
 fn is_close(interval: u64, one: u64, other: u64) -> bool
     ensures { IsTrue result → (one ≤ other + interval / 100) × (other ≤ one + interval / 100) }
 {
     one.saturating_sub(other) <= interval / 100 && other.saturating_sub(one) <= interval / 100
 }
 
-/// Whether there are at least five widths (`spread`), and another one (`width`) is outside their
-/// range by more than the margin (`margin_of`). False if there are fewer, or it is within. Five is
-/// this project's own: fewer can be alike by chance.
+/// Five is this project's own: fewer can be alike by chance.
 fn is_outside(interval: u64, spread: Spread, width: u64) -> bool
     ensures { result ≡ is_outside interval spread width }
 {
@@ -83,9 +70,8 @@ fn is_outside(interval: u64, spread: Spread, width: u64) -> bool
     spread.many >= 5 && (width + margin < least || most + margin < width)
 }
 
-/// How far a width may be outside the range of others (`spread`): a hundredth of the interval, and
-/// twice what these differ by. Both are this project's own: a recorder counts in steps, and a
-/// sender wavers. It is a `u128`, as twice a `u64` and more can be too large for a `u64`.
+/// A hundredth of the interval, and twice what the others differ by: a recorder counts in steps,
+/// and a sender wavers. Both are this project's own.
 fn margin_of(interval: u64, spread: Spread) -> u128
     ensures value { result ≡ margin_of interval spread }
     ensures small { result < 2 ^ 67 }
@@ -94,8 +80,7 @@ fn margin_of(interval: u64, spread: Spread) -> u128
     u128::from(interval) / 100 + 2 * u128::from(apart)
 }
 
-/// The spread of the widths of those pulses of a frame that have the class of `element`, without
-/// its own (`is_other_of_class`). All 0 if there are none, or its width is bad.
+/// The widths of the other pulses of its frame that have the class of `element`.
 fn spread_of(format: Format, pulses: &[Pulse], marker: usize, element: usize) -> Spread
     ensures { result ≡ spread_of format pulses.now marker element 100 }
 {
@@ -112,8 +97,6 @@ fn spread_of(format: Format, pulses: &[Pulse], marker: usize, element: usize) ->
     spread
 }
 
-/// The spread of some widths (`spread`) and one more (`width`), which is both least and most if it
-/// is the first. A frame has 100 pulses, so there are fewer than 100 before.
 fn with_width(width: u64, spread: Spread) -> Spread
     requires { spread.many < 100 }
     ensures { result ≡ with_width width spread }
@@ -133,8 +116,7 @@ fn with_width(width: u64, spread: Spread) -> Spread
     }
 }
 
-/// Whether the pulse of the element `other` is not that of `element`, and has its class. False if
-/// one of them has no class, as one that is not there.
+/// False if one of them has no class, as one that is not there.
 fn is_other_of_class(
     format: Format,
     pulses: &[Pulse],
@@ -152,8 +134,7 @@ fn is_other_of_class(
         )
 }
 
-/// Whether two pulses have the same class, each `None` if the width is bad. False if one of them
-/// has none, or neither has.
+/// False if one of them is bad.
 fn is_same_class(one: Option<Element>, other: Option<Element>) -> bool
     ensures { result ≡ is_same_class one other }
 {
@@ -165,9 +146,8 @@ fn is_same_class(one: Option<Element>, other: Option<Element>) -> bool
     }
 }
 
-/// How wide the pulse of an element is, from 0, of the frame with this marker; 0, which has no
-/// class, if there is none. The test subtracts, as the sum of marker and element could be too large
-/// for its type.
+/// In microseconds; 0, which has no class, if there is no pulse. The test subtracts, as the sum
+/// could be too large.
 fn width_in(pulses: &[Pulse], marker: usize, element: usize) -> u64
     ensures { result ≡ width_in pulses.now marker element }
 {
@@ -178,7 +158,6 @@ fn width_in(pulses: &[Pulse], marker: usize, element: usize) -> u64
     }
 }
 
-/// How wide a pulse is; 0 if there is none, or if it would fall before it rises.
 fn width_or(pulse: Option<Pulse>) -> u64
     ensures { result ≡ width_or pulse }
 {
