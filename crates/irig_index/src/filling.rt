@@ -1,24 +1,4 @@
 //! What is made of the markers of a part of a track: their records, or their number.
-//!
-//! A marker is the pulse with which a frame begins: a position identifier in step after another
-//! one. Pulses count from 0. A place is the number of a pulse; a marker after place k is pulse k +
-//! 1, and pulse k is the position identifier before it. So the last place with a pulse after it is
-//! the number of pulses less 2. A record has a marker and the verdict on its frame; to retell it is
-//! to check the frame again and to write the new verdict. Records are in a gap buffer, in rising
-//! order: `put` inserts left of the gap. Those right of it count their markers from the back of
-//! `pulses`, which is how many pulses the track had. In contracts, `EndsUpTo` says that the last of
-//! some records is of a marker up to a pulse, and `BeginsAfter` that the first is of a later one;
-//! both hold if there is no record.
-//!
-//! A lens shows the pulses of a track and counts each look at one; `looks` gets the same count. A
-//! place takes at most 2 looks to find a marker after it, and 99 to check the frame. As the checks
-//! of two frames look at no pulse twice, n places take at most 3n + 98: the last frame goes on
-//! after them. In contracts, `records_in` are the records after some places, and `Looked` says how
-//! many looks there were at most, and that both counts have them.
-//!
-//! What is marked "Read for .." does nothing: it only lets the proof use what a type promises.
-//!
-//! The edit of a `Span`: from pulse `at` on, `old` pulses became `new`, and all others stay.
 
 ghost use Rattle.std.specs.Prelude.{◌≡◌, ℕ, ◌+◌, ◌-◌, ◌*◌, ◌^◌, ◌<◌, ◌≤◌, ◌++◌, length, take, drop};
 ghost use Rattle.std.specs.Prelude.{max, min, OnOk, IsOk};
@@ -39,8 +19,7 @@ use irig_gap::Gap;
 use irig_track::{Lens, Span};
 use std::alloc::AllocError;
 
-/// How many markers the lens's track has in this format: one for each frame, broken or not. Adds
-/// the looks that it takes to `looks`.
+/// One for each frame, broken or not.
 pub fn count_markers(lens: &mut Lens<'_>, looks: &mut u64, format: Format) -> usize
     ensures count { result ≡ length (frames format lens.old.track.pulses) }
     ensures looked { Looked lens.old lens.new looks.old looks.new
@@ -56,10 +35,8 @@ pub fn count_markers(lens: &mut Lens<'_>, looks: &mut u64, format: Format) -> us
     count
 }
 
-/// Puts the records of the markers after the places `from` to `to`, `to` not included, left of the
-/// gap, in order; none if `from` is `to`. If there is room for them the buffer does not grow, and
-/// nothing fails; else it fails only if memory runs out, and keeps the records found so far. After
-/// a growth the capacity is at most one and a half times the number of records (`bounded`).
+/// Writes the records of the markers after the places `from` to `to`, without `to`, left of the
+/// gap. If memory runs out, the records found so far stay.
 pub fn fill(
     records: &mut Gap<Stored>,
     lens: &mut Lens<'_>,
@@ -81,23 +58,19 @@ pub fn fill(
     ensures looked { Looked lens.old lens.new looks.old looks.new
         (min (101 * (to - from)) (3 * (to - from) + 98)) }
 {
-    // Read for its bound alone.
+    // For its bound.
     let _len = lens.len();
     let mut place = from;
     while let Some((before, first)) = next_marker(lens, looks, format, place, to) {
         let marker = before + 1;
         let verdict = verdict(lens, looks, format, marker, first);
-        // Left of the gap a record has its marker's number from the front, as here.
         put(records, Stored::new(marker, verdict))?;
-        // Of the pulses after `marker` that the check has looked at, only the last can be a marker.
         place = next_place(marker, verdict, to);
     }
     Ok(())
 }
 
-/// Puts the records of the markers after the places `from` to `to`, `to` not included, left of the
-/// gap, in order, as `fill` does. `Index::reserve` has made room for them before: the buffer does
-/// not grow, so `unwrap` finds no error.
+/// As `fill`, in room that `Index::reserve` has made, so that `unwrap` finds no error.
 pub fn refill(
     records: &mut Gap<Stored>,
     lens: &mut Lens<'_>,
@@ -120,14 +93,9 @@ pub fn refill(
     fill(records, lens, looks, format, from, to).unwrap();
 }
 
-/// Retells the record of the last frame that begins before an edit, if the frame can reach into it.
-/// Only pulses after pulse `from` have changed. The frame is that of the last marker up to `from`;
-/// each earlier one ends at the next marker at the latest. If this marker is 99 pulses or more
-/// before `from`, the frame ends by then: nothing is done, and the contract asks that the record is
-/// right. Nothing is done either if no marker is up to `from`.
-///
-/// Returns whether the record after that one is of a marker up to pulse `last`, the first after the
-/// edit by its old number: then the caller removes that record. `false` if there is none.
+/// Retells the record of the last frame that begins before an edit, if the frame can reach into it:
+/// only pulses after pulse `from` have changed. Returns whether the record after that one is of a
+/// marker up to pulse `last`, the first after the edit by its old number.
 pub fn retell_up_to(
     records: &mut Gap<Stored>,
     pulses: usize,
@@ -148,7 +116,7 @@ pub fn retell_up_to(
     ensures capacity { records.new.capacity ≡ records.old.capacity }
     ensures looked { Looked lens.old lens.new looks.old looks.new 100 }
 {
-    // Read for its bound alone.
+    // For its bound.
     let _count = records.len();
     let count = count_up_to(records, pulses, from);
     let more = is_up_to(records, pulses, count, last);
@@ -158,10 +126,8 @@ pub fn retell_up_to(
     more
 }
 
-/// Retells the last of the first `count` records: checks its frame again and writes the verdict.
-/// Nothing is done if `count` is 0, or if its marker is a pulse up to `settled`: the frame ends
-/// before what has changed then. The look at the marker itself is counted here, and `verdict`
-/// counts those at the pulses after it.
+/// Retells the last of the first `count` records, unless its frame ends before what has changed:
+/// its marker is up to `settled`.
 fn retell(
     records: &mut Gap<Stored>,
     pulses: usize,
@@ -181,7 +147,7 @@ fn retell(
     ensures capacity { records.new.capacity ≡ records.old.capacity }
     ensures looked { Looked lens.old lens.new looks.old looks.new 100 }
 {
-    // Read for its bound alone.
+    // For its bound.
     let _len = lens.len();
     if count == 0 {
         return;
@@ -196,10 +162,7 @@ fn retell(
     set_record(records, pulses, count - 1, Stored::new(marker, verdict));
 }
 
-/// The place before which a repair stops seeking markers: the first pulse after the edit, or the
-/// last pulse of the track if that comes first; 0 if no pulse is left. The marker sought is the
-/// pulse after a place, so the last one sought is the first pulse after the edit. Each later pulse
-/// and the one before it are as they were. `few` gives the caller's proof the limit of a track.
+/// The place before which a repair stops seeking markers: later pulses are as they were.
 pub fn last_place(lens: &Lens<'_>, edit: Span) -> usize
     requires { edit.at + edit.new ≤ length lens.now.track.pulses }
     ensures least { result ≡ min (length lens.now.track.pulses - 1) (edit.at + edit.new) }
@@ -209,8 +172,7 @@ pub fn last_place(lens: &Lens<'_>, edit: Span) -> usize
     last.min(edit.at + edit.new)
 }
 
-/// The first place from `from` on, below `to`, with a marker after it; `to` if there is none. Adds
-/// the looks that it takes to `looks`.
+/// The first place from `from` on, below `to`, with a marker after it; `to` if there is none.
 pub fn next_marked(
     lens: &mut Lens<'_>,
     looks: &mut u64,
@@ -224,7 +186,7 @@ pub fn next_marked(
         lens.old lens.new looks.old looks.new }
     ensures within { result ≤ to }
 {
-    // Read for its bound alone.
+    // For its bound.
     let _len = lens.len();
     match next_marker(lens, looks, format, from, to) {
         Some((before, _)) => before,
@@ -232,10 +194,8 @@ pub fn next_marked(
     }
 }
 
-/// The place from which on the next marker is sought, at most `to`. The verdict on the frame of
-/// `marker` has looked at some pulses after it. Of these only the last can be a marker, as a frame
-/// has no two position identifiers in a row; so the place is that of the pulse before the last. If
-/// it has looked at none, the place is `marker`.
+/// The place from which on the next marker is sought: of the pulses that the verdict looked at only
+/// the last can be one, as a frame has no two position identifiers in a row.
 fn next_place(marker: usize, verdict: Verdict, to: usize) -> usize
     requires { marker ≤ to }
     ensures order { marker ≤ result }

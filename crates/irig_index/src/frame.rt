@@ -1,14 +1,4 @@
 //! The verdict on a frame.
-//!
-//! A marker is the pulse with which a frame begins: a position identifier in step after another
-//! one. It is element 0 of its frame; elements 9, 19, 29 up to 99 are position identifiers, too,
-//! and all others digits, Zero or One. Two rises are in step if they are one interval apart, to a
-//! tenth. An interval is in microseconds, from one rise to the next. A lens shows the pulses of a
-//! track and counts each look at one; `looks` is a second count of them, which an index keeps.
-//!
-//! In contracts `class_in` is the class of a width, `counts` says that a class is One, and
-//! `Checked` that both counts have the looks of a check. A verdict is `Read`, with the fields and
-//! the note of a sound frame, or `Broken`, with the least element that fails, 1 to 99, and why.
 
 ghost use Rattle.std.specs.Prelude.{◌≡◌, ℕ, ◌+◌, ◌-◌, ◌==◌, ◌<◌, ◌≤◌, [], true, false};
 ghost use Rattle.std.specs.Prelude.{if◌then◌else◌, slice_get, unwrap_or, Some, MatchOption, List};
@@ -28,15 +18,11 @@ use crate::record::{Cause, Verdict};
 use irig_codes::{Format, Gathering, decode_ones, step_in};
 use irig_track::{Lens, Pulse};
 
-/// How many elements a frame has.
+/// Of a frame.
 pub const ELEMENTS: usize = 100;
 
-/// The verdict on the frame of the marker `first`, as `check` gives it. The caller knows that
-/// `first` is pulse `at` of the track, from 0, and a position identifier. It looks at no more than
-/// the 99 pulses after the marker; `looks` gets their count, too. Of the pulses that it looks at
-/// only the last can be a marker (`alone`): a marker comes right after another position identifier,
-/// a frame has no two in a row, and the check ends at the first pulse that is not as a frame has
-/// it.
+/// The verdict on the frame of the marker `first`, pulse `at` of the track, from 0. Of the pulses
+/// that it looks at, 99 at most, only the last can be a marker (`alone`).
 pub fn verdict(
     lens: &mut Lens<'_>,
     looks: &mut u64,
@@ -57,10 +43,7 @@ pub fn verdict(
     verdict
 }
 
-/// How many looks a verdict took: one for each pulse after the marker, up to the one that fails,
-/// included; 99 if none fails (`Read`). If element k fails since the track has ended, there is no
-/// such pulse to look at, so the verdict took k - 1. An element that fails has a number from 1 on,
-/// so nothing saturates.
+/// One for each pulse after the marker, up to the one that fails, if that is there.
 pub fn looks_of(verdict: Verdict) -> u64
     ensures { result ≡ looks_of verdict }
 {
@@ -71,13 +54,7 @@ pub fn looks_of(verdict: Verdict) -> u64
     }
 }
 
-/// The verdict on the frame of the marker `first`, which is pulse `at`. Only the lens counts the
-/// looks here: the verdict shows how many they are. Each pulse after the marker has to be in step
-/// with the one before it (else `Step`), and of a class that may be there (else `Class`, by
-/// `told`); if both fail, the cause is `Step`. If no pulse fails but the track ends within the
-/// frame, the cause is `Ended`, at the first element that is missing. If none of the 99 fails, the
-/// verdict is that of `read`. `Gathering` takes whether each element is One, from element 0 on; the
-/// marker is not One.
+/// Each pulse has to be in step (else `Step`) and of a class that may be there (else `Class`).
 fn check(lens: &mut Lens<'_>, format: Format, at: usize, first: Pulse) -> Verdict
     requires track { IsLongTrack lens.old.track.micros lens.old.track.pulses }
     requires first { slice_get lens.old.track.pulses at ≡ Some first }
@@ -90,11 +67,10 @@ fn check(lens: &mut Lens<'_>, format: Format, at: usize, first: Pulse) -> Verdic
         → record_after format lens.old.track.pulses k ≡ [] }
 {
     let interval = format.interval();
-    // The track may end within the frame.
     let count = (lens.len() - at).min(ELEMENTS);
     let mut ones = Gathering::none().and(false);
     let mut before = first;
-    // This many digits are left before the next position identifier: elements 1 to 8 before 9.
+    // Elements 1 to 8 are before the next position identifier.
     let mut digits = 8u64;
     for k in 1..count {
         let pulse = lens.pulse(at + k);
@@ -114,8 +90,7 @@ fn check(lens: &mut Lens<'_>, format: Format, at: usize, first: Pulse) -> Verdic
     read(format, ones)
 }
 
-/// The verdict on a frame in which no pulse fails: its fields and their note. `gathered` says of
-/// all 100 elements, from element 0 on, whether they are One.
+/// A frame in which no pulse fails: `gathered` says of all 100 elements whether they are One.
 fn read(format: Format, gathered: Gathering) -> Verdict
     ensures verdict { (frame : List Element) → length frame ≡ 100 → raised frame ≡ gathered
         → result ≡ Read (decoded format frame).0 (decoded format frame).1 }
@@ -125,11 +100,8 @@ fn read(format: Format, gathered: Gathering) -> Verdict
     Verdict::Read(fields, note)
 }
 
-/// What `check` learns from the width of an element: whether it is One, and how many digits are
-/// left after it before the next position identifier. `digits` is how many were left before it,
-/// itself included. If that is 0, it has to be a position identifier: it is not One, and nine
-/// digits come after it. Else it has to be a digit, Zero or One. `None` if it is not what it has to
-/// be. It is inlined, as the loop of `check` calls it for each pulse.
+/// Whether an element is One, and how many digits are left after it before the next position
+/// identifier, by those left before it. `None` if it is not what it has to be.
 #[inline(always)]
 fn told(interval: u64, width: u64, digits: u64) -> Option<(bool, u64)>
     requires { HasTwentieths interval }

@@ -1,15 +1,4 @@
-//! The records on both sides of a gap. They are in a gap buffer: a list with a gap, at which
-//! records come and go. A record has a marker, the pulse with which a frame begins, and the verdict
-//! on that frame.
-//!
-//! Records are in rising order of their markers, which are numbers of pulses from 0. Those left of
-//! the gap count from the front of the track; those right of it count from its back, so that an
-//! edit at the gap leaves them as they are. `pulses`, how many the track has, gives their numbers:
-//! pulse k is counted as `pulses - k` there. `first` and `last` are numbers of pulses, from the
-//! front. In contracts, `EndsUpTo` says that the last of some records is of a marker up to a pulse,
-//! and `BeginsAfter` that the first is of a later one; both hold if there is no record.
-//!
-//! What is marked "Read for .." does nothing: it only lets the proof use what a type promises.
+//! The records on both sides of a gap.
 
 ghost use Rattle.std.specs.Prelude.{◌≡◌, ℕ, ◌+◌, ◌*◌, ◌^◌, ◌<◌, ◌≤◌, ◌∷◌, ◌++◌, [], true, false};
 ghost use Rattle.std.specs.Prelude.{List, length, max, slice_get, Some, IsOk, OnOk};
@@ -22,10 +11,8 @@ use crate::stored::Stored;
 use irig_gap::Gap;
 use std::alloc::AllocError;
 
-/// The record with its marker's number counted from the other end of the track: `pulses` less the
-/// number. It turns one count into the other, both ways. For a marker of the track nothing wraps;
-/// any other number wraps at 2^64, and wraps back if it is turned again. The clause `fits` says
-/// nothing of what this does: it is only for the proof, which needs that a number has 64 bits.
+/// The record with its marker's number counted from the other end of the track. The clause `fits`
+/// is only for the proof, which needs that a number has 64 bits.
 pub fn turned(pulses: usize, kept: Stored) -> Stored
     ensures turned { result ≡ turned pulses kept }
     ensures fits { kept.marker < 2 ^ 64 }
@@ -33,7 +20,7 @@ pub fn turned(pulses: usize, kept: Stored) -> Stored
     kept.at(pulses.wrapping_sub(kept.marker()))
 }
 
-/// The record at place `k`, from 0, its marker counted from the front.
+/// Its marker is counted from the front.
 pub fn record_at(records: &Gap<Stored>, pulses: usize, k: usize) -> Stored
     requires { k < length records.now.items }
     ensures { slice_get (shown pulses records.now) k ≡ Some result }
@@ -46,8 +33,7 @@ pub fn record_at(records: &Gap<Stored>, pulses: usize, k: usize) -> Stored
     }
 }
 
-/// Removes all records: those left of the gap, and then those right of it. The memory stays taken
-/// (`capacity`).
+/// The memory stays taken.
 pub fn clear(records: &mut Gap<Stored>)
     ensures items { records.new.items ≡ [] }
     ensures capacity { records.new.capacity ≡ records.old.capacity }
@@ -60,11 +46,8 @@ pub fn clear(records: &mut Gap<Stored>)
     }
 }
 
-/// Removes the records of the markers after `first`, up to `last`, included, and leaves the gap
-/// where they were. `drop_back_to` removes those left of the gap first, so that the gap does not
-/// have to move over them; `part` then moves the gap to just before the rest of those that go, and
-/// `drop_up_to` removes these. In the contract, `Parts` says that the records are three lists:
-/// those up to `first`, those that go, and those after `last`.
+/// Removes the records of the markers after `first`, up to `last`, and leaves the gap there. Those
+/// left of the gap go first, so that it does not have to move over them.
 pub fn cut_out(records: &mut Gap<Stored>, pulses: usize, first: usize, last: usize)
     requires { first ≤ last }
     ensures sides { (start middle rest : List Record)
@@ -77,8 +60,7 @@ pub fn cut_out(records: &mut Gap<Stored>, pulses: usize, first: usize, last: usi
     drop_up_to(records, pulses, last);
 }
 
-/// Moves the gap to the place after the records of the markers up to `last`, and before all others.
-/// It goes left over later ones, or right over those up to `last`; no record comes or goes.
+/// Moves the gap to between the records of the markers up to `last` and all others.
 fn part(records: &mut Gap<Stored>, pulses: usize, last: usize)
     ensures shown { shown pulses records.new ≡ shown pulses records.old }
     ensures left { EndsUpTo last (left_of records.new) }
@@ -94,10 +76,7 @@ fn part(records: &mut Gap<Stored>, pulses: usize, last: usize)
     }
 }
 
-/// Moves the gap left over the records of the markers after `last`, and then removes the records
-/// left of it that are of markers after `first`. Records are in rising order, so all others that
-/// are to go are right of the gap then. `Cut` says that all that went are of markers after `first`,
-/// up to `last`.
+/// Moves the gap left over the records after `last`, and removes those left of it after `first`.
 fn drop_back_to(records: &mut Gap<Stored>, pulses: usize, first: usize, last: usize)
     ensures cut { Cut first last (shown pulses records.old)
         (left_of records.new) (right_of pulses records.new) }
@@ -112,8 +91,7 @@ fn drop_back_to(records: &mut Gap<Stored>, pulses: usize, first: usize, last: us
     }
 }
 
-/// Removes the records right of the gap that are of markers up to `last`, and no others
-/// (`Dropped`).
+/// Removes the records right of the gap that are of markers up to `last`.
 fn drop_up_to(records: &mut Gap<Stored>, pulses: usize, last: usize)
     ensures left { left_of records.new ≡ left_of records.old }
     ensures right { Dropped last (right_of pulses records.old) (right_of pulses records.new) }
@@ -125,7 +103,7 @@ fn drop_up_to(records: &mut Gap<Stored>, pulses: usize, last: usize)
     }
 }
 
-/// Whether the record left of the gap is of a marker after `last`. `false` if there is none.
+/// Whether the record left of the gap is of a marker after `last`.
 pub fn ends_after(records: &Gap<Stored>, last: usize) -> bool
     ensures left { result ≡ false → EndsUpTo last (left_of records.now) }
     ensures some { result ≡ true → 0 < records.now.place }
@@ -134,8 +112,6 @@ pub fn ends_after(records: &Gap<Stored>, last: usize) -> bool
     place > 0 && records.get(place - 1).marker() > last
 }
 
-/// Whether the record left of the gap is of a marker after `first`, up to `last`. `false` if there
-/// is none.
 fn ends_within(records: &Gap<Stored>, first: usize, last: usize) -> bool
     ensures { result ≡ true → EndsWithin first last records.now.items records.now.place }
 {
@@ -147,7 +123,7 @@ fn ends_within(records: &Gap<Stored>, first: usize, last: usize) -> bool
     marker > first && marker <= last
 }
 
-/// Whether the record right of the gap is of a marker up to `last`. `false` if there is none.
+/// Whether the record right of the gap is of a marker up to `last`.
 pub fn begins_up_to(records: &Gap<Stored>, pulses: usize, last: usize) -> bool
     ensures right { result ≡ false → BeginsAfter last (right_of pulses records.now) }
     ensures some { result ≡ true → BeginsUpTo last (right_of pulses records.now) }
@@ -156,8 +132,7 @@ pub fn begins_up_to(records: &Gap<Stored>, pulses: usize, last: usize) -> bool
     place < records.len() && turned(pulses, records.get(place)).marker() <= last
 }
 
-/// Moves the gap to the left over one record, whose marker is then counted from the back. The
-/// caller has seen that a record is there.
+/// Over one record, whose marker is then counted from the back.
 fn step_left(records: &mut Gap<Stored>, pulses: usize)
     requires { 0 < records.old.place }
     ensures shown { shown pulses records.new ≡ shown pulses records.old }
@@ -165,15 +140,14 @@ fn step_left(records: &mut Gap<Stored>, pulses: usize)
     ensures length { length records.new.items ≡ length records.old.items }
     ensures capacity { records.new.capacity ≡ records.old.capacity }
 {
-    // Here `last` is the place of this record among all, from 0.
+    // Its place among all records.
     let last = records.gap_at() - 1;
     let record = records.get(last);
     records.set(last, turned(pulses, record));
     records.step_left();
 }
 
-/// Moves the gap to the right over one record, whose marker is then counted from the front. The
-/// caller has seen that a record is there.
+/// Over one record, whose marker is then counted from the front.
 fn step_right(records: &mut Gap<Stored>, pulses: usize)
     requires { records.old.place < length records.old.items }
     ensures shown { shown pulses records.new ≡ shown pulses records.old }
@@ -183,17 +157,14 @@ fn step_right(records: &mut Gap<Stored>, pulses: usize)
     ensures length { length records.new.items ≡ length records.old.items }
     ensures capacity { records.new.capacity ≡ records.old.capacity }
 {
-    // Here `first` is the place of this record among all, from 0.
     let first = records.gap_at();
     let record = records.get(first);
     records.set(first, turned(pulses, record));
     records.step_right();
 }
 
-/// Inserts a record just left of the gap, its marker counted from the front. If there is room the
-/// buffer does not grow, and nothing fails; else it fails only if memory runs out. A full buffer
-/// grows by half of its capacity, or by one place if that is more; so after a growth the capacity
-/// is at most one and a half times the number of records (`bounded`).
+/// Inserts a record just left of the gap, its marker counted from the front. A full buffer grows by
+/// half of its capacity, or by one place if that is more.
 pub fn put(records: &mut Gap<Stored>, found: Stored) -> Result<(), AllocError>
     ensures left { OnOk result (left_of records.new ≡ left_of records.old ++ (found ∷ [])) }
     ensures right { OnOk result (kept_right records.new ≡ kept_right records.old) }
@@ -204,7 +175,7 @@ pub fn put(records: &mut Gap<Stored>, found: Stored) -> Result<(), AllocError>
         ≤ max (2 * records.old.capacity) (3 * length records.new.items)) }
 {
     records.reserve(1)?;
-    // Read for its bound alone.
+    // For its bound.
     let _place = records.gap_at();
     records.put(found);
     Ok(())

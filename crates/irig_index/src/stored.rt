@@ -1,9 +1,4 @@
 //! A record as an index keeps it.
-//!
-//! A marker is the number of the pulse with which a frame begins, from 0. A verdict is `Read`, with
-//! the fields and the note of a sound frame, or `Broken`, with the least element that fails, 1 to
-//! 99, and why. What is marked `inline(always)` is asked in loops over records, or for each field
-//! of one.
 
 ghost use Rattle.std.specs.Prelude.{◌≡◌, ◌-◌, ◌^◌, ◌<◌, unwrap_or};
 ghost use Rattle.irig_index.specs.Kept.{IsNarrow, kept_of, part_of, verdict_kept};
@@ -13,7 +8,7 @@ use irig_codes::{Fields, Note};
 use std::marker::Model;
 use std::mem::size_of;
 
-/// A record as an index keeps it, in 32 bytes.
+/// In 32 bytes.
 #[derive(Clone, Copy)]
 pub struct Stored {
     marker: usize,
@@ -40,9 +35,7 @@ impl Model for Stored {
 }
 
 impl Stored {
-    /// The record of a marker, by the number of its pulse, and the verdict on its frame. Each
-    /// number of the verdict has to fit in the bytes for it (`IsNarrow`); those of a frame do, as
-    /// it has few bits for each.
+    /// Each number of the verdict has to fit in its bytes (`IsNarrow`), as those of a frame do.
     pub fn new(marker: usize, verdict: Verdict) -> Stored
         requires { IsNarrow verdict }
         ensures { result ≡ record { marker = marker; verdict = verdict } }
@@ -53,7 +46,7 @@ impl Stored {
         }
     }
 
-    /// The number of the marker's pulse.
+    /// The number of its pulse, from 0.
     #[inline(always)]
     pub fn marker(self) -> usize
         ensures { result ≡ self.marker }
@@ -61,7 +54,7 @@ impl Stored {
         self.marker
     }
 
-    /// The record with this number for its marker, and the verdict as it is.
+    /// With another marker.
     #[inline(always)]
     pub fn at(self, marker: usize) -> Stored
         ensures { result ≡ record { marker = marker; verdict = self.verdict } }
@@ -72,7 +65,7 @@ impl Stored {
         }
     }
 
-    /// The record, with its verdict in full.
+    /// With its verdict in full.
     pub fn record(self) -> Record
         ensures { result ≡ self }
     {
@@ -83,13 +76,10 @@ impl Stored {
     }
 }
 
-/// A verdict, each number in no more bytes than it needs. A field that the format does not have is
-/// kept as the greatest number of its type, which no frame carries.
+/// A verdict in few bytes. A field that is `None` is the greatest number of its type.
 #[derive(Clone, Copy)]
 pub enum Kept {
-    /// The least element that fails, and why.
     Broken(u8, Cause),
-    /// The fields of a sound frame, and what is noted of them.
     Read {
         hundredths: u8,
         seconds: u8,
@@ -103,9 +93,7 @@ pub enum Kept {
     },
 }
 
-/// The verdict as it is kept: each number shortened to its bytes, which loses nothing. A number of
-/// two decimal digits of at most four bits each is at most 165, and the days, whose hundreds have
-/// two bits, at most 465. A field that is `None` becomes the greatest number of its type.
+/// Two digits of at most four bits each are at most 165, and the days at most 465.
 fn keep(verdict: Verdict) -> Kept
     requires { IsNarrow verdict }
     ensures { result ≡ kept_of verdict }
@@ -126,7 +114,7 @@ fn keep(verdict: Verdict) -> Kept
     }
 }
 
-/// The verdict in full, from what is kept of it: the inverse of `keep`.
+/// The inverse of `keep`.
 fn verdict(kept: Kept) -> Verdict
     ensures { result ≡ verdict_kept kept }
 {
@@ -158,8 +146,7 @@ fn verdict(kept: Kept) -> Verdict
     }
 }
 
-/// A field of two decimal digits as it is kept: in a byte, with 255 for `None`. Two digits of four
-/// bits make at most 165, so the field is below 255.
+/// 255 is `None`.
 #[inline(always)]
 fn byte(part: Option<u32>) -> u8
     requires { unwrap_or part 0 < 255 }
@@ -171,7 +158,6 @@ fn byte(part: Option<u32>) -> u8
     }
 }
 
-/// The field of two decimal digits that a byte keeps; 255 is `None`.
 #[inline(always)]
 fn two_digits(byte: u8) -> Option<u32>
     ensures { result ≡ part_of 255 byte }
@@ -179,8 +165,7 @@ fn two_digits(byte: u8) -> Option<u32>
     if byte == 255 { None } else { Some(byte as u32) }
 }
 
-/// The field of the straight binary seconds, by what is kept of it. The greatest number of 32 bits
-/// is `None`: the field has only 17 bits, so it is never that number.
+/// The greatest number is `None`, as the field has only 17 bits.
 #[inline(always)]
 fn binary(sbs: u32) -> Option<u32>
     ensures { result ≡ part_of (2 ^ 32 - 1) sbs }
@@ -188,8 +173,7 @@ fn binary(sbs: u32) -> Option<u32>
     if sbs == u32::MAX { None } else { Some(sbs) }
 }
 
-/// The field of the control functions, by what is kept of it. The greatest number of 64 bits is
-/// `None`: the field has at most 45 bits, so it is never that number.
+/// The greatest number is `None`, as the field has at most 45 bits.
 #[inline(always)]
 fn functions(control: u64) -> Option<u64>
     ensures { result ≡ part_of (2 ^ 64 - 1) control }
