@@ -1,20 +1,4 @@
 //! Groups: several edits that one undo reverses.
-//!
-//! The past has the steps that can be undone, the future those that can be redone. The nearest step
-//! of a side is the one that is undone or redone next; the farthest is undone or redone last. Each
-//! side has a list of entries, one for a step; that of the past begins with the farthest, which is
-//! the oldest. An `Entry` of it has how many changes a step has, and the cursor of the state it
-//! leads to. To turn a step is to make its change, and to leave the change that leads back in it.
-//!
-//! A floor is the begin of the open group, an `Opening`: how many steps the past had, and the
-//! cursor. An undo does not go below it. `known` does nothing: it only lets the proof use what
-//! holds of the state.
-//!
-//! A journal is ready at a state (`AreReady`) if its steps apply one after another from there, and
-//! each change has room for its turn. `grouped_of` is what journal, state and cursor mean: the
-//! machine that keeps each former state whole, with the floor. `farthest n` are the `n` farthest
-//! steps of a side, `beyond n` all others; `joined_beyond n` is the side with these others made one
-//! step, if they are more than one.
 
 ghost use Rattle.std.specs.Prelude.{◌≡◌, ◌↔◌, ◌<◌, ◌≤◌, ◌⊎◌, ◌∷◌, ◌^◌, [], ℕ, IsErr, IsErrOf};
 ghost use Rattle.std.specs.Prelude.{IsNone, IsSome, IfSome, OnErr, OnOk, None, Some, drop, length};
@@ -35,8 +19,7 @@ use crate::side::Side;
 use crate::{JournalFault, Reversible};
 
 impl<R: Reversible> Journal<R> {
-    /// Opens a group at the present; `cursor` is that of the present, which an abort gives back. It
-    /// takes no memory, and the only error is `GroupOpen`: a group is open already.
+    /// Opens a group at the present; `cursor` is that of the present, which an abort gives back.
     pub fn begin(&mut self, cursor: usize) -> Result<(), JournalFault>
         ensures grouped { OnOk result ((s : R.Content) →
             begun (grouped_of R.turned R.delta s cursor self.old)
@@ -59,8 +42,7 @@ impl<R: Reversible> Journal<R> {
     }
 
     /// Closes the open group: the steps made since its begin become one. A single step stays as it
-    /// is, and without a step none is made. `state` is the present one, read for the proof alone.
-    /// This takes no memory, and the only error is `NoGroup`: no group is open.
+    /// is, and without a step none is made. `state` is read for the proof alone.
     pub fn end(&mut self, state: &R) -> Result<(), JournalFault>
         requires ready { AreReady R.fits R.turned R.delta (R.has_room (R.places state.now))
             (R.content state.now) self.old }
@@ -89,13 +71,8 @@ impl<R: Reversible> Journal<R> {
         Ok(())
     }
 
-    /// Makes one group of the newest `count` steps of the past; an undo of the group leads to
-    /// `cursor`. The past must have `count` steps, and no group may be open. `state` is the present
-    /// one, read for the proof alone. `irig_edit` calls this as it opens a saved session, after it
-    /// has made the changes of a saved group one by one.
-    ///
-    /// If `count` is 0, a group without changes is added: only that takes memory. So `OutOfMemory`,
-    /// the only error, comes only then, and no step changes.
+    /// Makes one group of the newest `count` steps of the past, as `irig_edit` does when it opens a
+    /// saved session; its undo leads to `cursor`. Only a group without changes takes memory.
     pub fn gather(&mut self, state: &R, count: usize, cursor: usize) -> Result<(), JournalFault>
         requires within { count ≤ length (past_of R.delta self.old) }
         requires no_group { self.old.floor ≡ None }
@@ -124,9 +101,7 @@ impl<R: Reversible> Journal<R> {
         Ok(())
     }
 
-    /// Closes the open group and undoes its steps for good, the newest first: state and cursor
-    /// become those of its begin, and nothing is left to redo. It takes no memory, and the only
-    /// error is `NoGroup`: no group is open.
+    /// Closes the open group and undoes its steps for good, the newest first.
     pub fn abort(&mut self, state: &mut R, cursor: &mut usize) -> Result<(), JournalFault>
         requires ready { AreReady R.fits R.turned R.delta (R.has_room (R.places state.old))
             (R.content state.old) self.old }
@@ -165,10 +140,8 @@ impl<R: Reversible> Journal<R> {
     }
 }
 
-/// Makes one step of all steps of the past's list after the first `at`, if they are more than one;
-/// one alone stays as it is. The list has at least `at` steps; its first `at` stay. The new step
-/// has the cursor of the oldest of the joined ones, the entry at index `at`, from 0, since its undo
-/// leads where theirs end. This takes no memory.
+/// Makes one step of all steps after the first `at`, if they are more than one. It has the cursor
+/// of the oldest of them, since its undo leads where theirs end.
 fn end_beyond(entries: &mut Vec<Entry>, at: usize)
     requires within { at ≤ vec_len entries.old }
     requires few { counts_of entries.old.items < 2 ^ 64 }
@@ -183,9 +156,7 @@ fn end_beyond(entries: &mut Vec<Entry>, at: usize)
     }
 }
 
-/// Undoes the newest steps until `at` are left in the past, which has at least that many; those
-/// undone are in the future then. It takes no memory. `turn_nearest` wants a cursor, and keeps it
-/// with the step undone; the caller sets the cursor itself and clears the future, so any will do.
+/// Undoes the newest steps until `at` are left. The caller sets the cursor, so any will do here.
 fn turn_beyond<R: Reversible>(
     past: &mut Side<R::Change>,
     future: &mut Side<R::Change>,

@@ -1,17 +1,4 @@
-//! Steps turned, and moved from one side of the present to the other. Nothing here takes memory.
-//!
-//! The past has the steps that can be undone, the future those that can be redone. A side has the
-//! changes of its steps in one list. In another, `entries`, it has for each step the number of its
-//! changes and its cursor. The nearest step of a side is the one that is undone or redone next, the
-//! farthest the last one. To turn a change is to make it to the state, and to leave the change that
-//! leads back. Each side has its places before (`places` makes them), so `unwrap` of a `push` finds
-//! no error. `known` does nothing: it only lets the proof use what holds of the state. Steps or
-//! changes are ready at a state (`AreReady`, `ReadyInTurn`) if they apply one after another from
-//! there, each with room for its turn. `steps_in` is a journal with these two sides. `LedByOneTurn`
-//! says that one turn, that of the nearest step, leads from the old state, cursor and steps to the
-//! new ones, as `stepped_back` moves them for an undo; and that the tally, which is what a state
-//! counts of its turns, grew by what `counted` says of one turn. `Moved` says that changes left one
-//! list, and what their turns left came to the other.
+//! Steps turned, and moved from one side of the present to the other.
 
 ghost use Rattle.std.specs.Prelude.{◌≡◌, ◌+◌, ◌<◌, ◌≤◌, ◌∷◌, [], reverse, vec_capacity, vec_len};
 ghost use Rattle.irig_journal.specs.History.{step, stepped_back};
@@ -24,10 +11,8 @@ use crate::Reversible;
 use crate::side::Side;
 use std::mem;
 
-/// Turns a new change, and adds the change that leads back as the nearest step of the past. The
-/// caller has found that the change can be made, and made room for it and for the step. That step
-/// gets `before`, the cursor of the state before the change. All steps of the future are dropped:
-/// they led on from the state before the change.
+/// Turns a new change, and adds the change that leads back as the nearest step of the past, with
+/// the cursor `before`. The steps of the future led on from the state before, so they are dropped.
 pub(crate) fn turn_new<R: Reversible>(
     past: &mut Side<R::Change>,
     future: &mut Side<R::Change>,
@@ -61,11 +46,8 @@ pub(crate) fn turn_new<R: Reversible>(
     future.clear();
 }
 
-/// Turns the nearest step of one side, and moves it to the other: from the past it is an undo, from
-/// the future a redo. The two cursors are swapped. `cursor` becomes that of the state the step
-/// leads to; the step, which now leads back, gets the former `cursor`. `from` must have a step, so
-/// `unwrap` of the `pop` finds one. The contract takes `from` as the past, so it says `undone`: a
-/// redo is an undo with past and future swapped.
+/// Turns the nearest step of one side, and moves it to the other; the two cursors are swapped. The
+/// contract says `undone`: a redo is an undo with past and future swapped.
 pub(crate) fn turn_nearest<R: Reversible>(
     from: &mut Side<R::Change>,
     to: &mut Side<R::Change>,
@@ -97,10 +79,8 @@ pub(crate) fn turn_nearest<R: Reversible>(
     to.entries.push(nearest).unwrap();
 }
 
-/// Turns the nearest `count` changes of `from`, the nearest first, and moves each to the end of
-/// `to`. `from` has at least that many, so `unwrap` of the `pop` finds one, and `to` has places for
-/// them. Both lists end with their nearest change. So in `to` the changes are in the opposite
-/// order, as they have to be to be turned back.
+/// Turns the nearest `count` changes, and moves each to the end of `to`: in the opposite order, as
+/// they have to be to be turned back.
 fn turn_changes<R: Reversible>(
     from: &mut Vec<R::Change>,
     to: &mut Vec<R::Change>,

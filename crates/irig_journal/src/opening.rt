@@ -1,5 +1,4 @@
-//! The begin of a group of steps, which become one step. A cursor is a number that the caller keeps
-//! with the state. The floor is the begin of the open group: an undo does not go below it.
+//! The begin of a group of steps, which become one step.
 
 ghost use Rattle.std.specs.Prelude.{◌↔◌, IsTrue};
 ghost use Rattle.irig_journal.specs.Openings.{AtFloor};
@@ -11,10 +10,7 @@ pub struct Opening {
     pub cursor: usize,
 }
 
-/// Whether a group is open and no step was made since the group was begun: then no step may be
-/// undone. `long` is how many steps the past has. `floor` is the begin of the open group; if it is
-/// `None`, no group is open and the answer is false. The past never has fewer steps than at the
-/// begin of the group.
+/// Whether a group is open and no step was made since its begin: then no step may be undone.
 pub(crate) fn is_at_floor(floor: Option<Opening>, long: usize) -> bool
     ensures { IsTrue result ↔ AtFloor floor long }
 {

@@ -1,15 +1,4 @@
 //! Room for a step and for its way to the other side: places on both sides, and in the state.
-//!
-//! The past has the steps that can be undone, the future those that can be redone. A place is room
-//! in a list for one item. A side has a list of changes and one of entries, one entry for a step.
-//! Each side has a place for every step of both (`AreSides`), as a step can move to the other side.
-//! `prepare` makes the room in the state. An error is that memory ran out. Steps are ready at a
-//! state (`AreReady`) if they apply one after another from there, each with room for its turn.
-//! `IsSameSide`: a side has the same steps, and no place is lost. `HavePlacesForStep`: the past has
-//! a place for one step more of one change, and the future for all steps that the past has then.
-//! `LacksPlace`: one of these places is not there.
-//!
-//! Where `let .. else` hands an error on, `?` would do the same; the proof of it takes longer.
 
 ghost use Rattle.std.specs.Prelude.{◌≡◌, ◌⊎◌, ◌+◌, ◌<◌, ◌≤◌, OnErr, OnOk, vec_capacity, vec_len};
 ghost use Rattle.irig_journal.specs.Held.{Alone};
@@ -22,9 +11,6 @@ use crate::side::Side;
 use std::alloc::AllocError;
 
 /// Makes room for a change, its undo and its redo: on both sides, in the state and in the change.
-/// The change is not made yet: the steps, the state and the change mean what they meant, also after
-/// an error. The change must be one that can be made. `reserve_step` makes the places on both
-/// sides, `prepare` the rest.
 pub(crate) fn reserve_change<R: Reversible>(
     past: &mut Side<R::Change>,
     future: &mut Side<R::Change>,
@@ -54,10 +40,8 @@ pub(crate) fn reserve_change<R: Reversible>(
     state.prepare(change)
 }
 
-/// Makes a place in the past for one more step of one change, and places in the future for all
-/// steps that the past has then: later undos may move all of them there. The steps of the future
-/// need no places of their own, since they are dropped as the new step is made. Here all steps
-/// stay, also after an error.
+/// Makes a place in the past for one more step, and places in the future for all that the past has
+/// then, as undos may move them there. The steps of the future are dropped by then.
 fn reserve_step<C>(past: &mut Side<C>, future: &mut Side<C>) -> Result<(), AllocError>
     requires { AreSides past.old future.old }
     ensures past { IsSameSide past.old past.new }
@@ -72,11 +56,7 @@ fn reserve_step<C>(past: &mut Side<C>, future: &mut Side<C>) -> Result<(), Alloc
     reserve_one(&mut past.entries, &mut future.entries)
 }
 
-/// Makes a place in `list`, a list of the past, for one item more, and as many places in `other`,
-/// the same list of the future, as `list` has items then. The items of `other` are dropped before
-/// it gets any of these, so their places count, too. The items of both stay here, also after an
-/// error. `reserve` counts its places from the items on; as these are never more than the capacity,
-/// the subtraction does not go below 0.
+/// Makes a place in `list` for one item more, and places in `other` for all that `list` has then.
 fn reserve_one<T>(list: &mut Vec<T>, other: &mut Vec<T>) -> Result<(), AllocError>
     ensures list { (list.new.items ≡ list.old.items) × (vec_len list.new ≡ vec_len list.old) }
     ensures other { (other.new.items ≡ other.old.items) × (vec_len other.new ≡ vec_len other.old) }
@@ -95,12 +75,8 @@ fn reserve_one<T>(list: &mut Vec<T>, other: &mut Vec<T>) -> Result<(), AllocErro
     other.reserve(places.saturating_sub(other.len()))
 }
 
-/// Makes a place, in both lists, for the group that `gather` makes of the newest `count` steps of
-/// the past. Before the call each list has places for all steps of both lists (`places`); after it,
-/// also with the group. If `count` is above 0, nothing has to be done: the group gets the place of
-/// a step that it replaces. If it is 0, the group is one step more, which takes memory: `reserve`
-/// makes places in addition to the items that are there. The steps stay, also after an error, which
-/// only comes if `count` is 0.
+/// Makes a place in both lists for the group of `gather`. It gets that of a step that it replaces;
+/// if `count` is 0, it is one step more, which takes memory.
 pub(crate) fn reserve_group(
     past: &mut Vec<Entry>,
     future: &mut Vec<Entry>,

@@ -1,5 +1,4 @@
-//! The steps on one side of the present: those that can be undone, or those that can be redone. The
-//! nearest is undone or redone next. A cursor is a number that the caller keeps with the state.
+//! The steps on one side of the present: those that can be undone, or those that can be redone.
 
 ghost use Rattle.std.specs.Prelude.{◌≡◌, ◌+◌, ◌<◌, ◌≤◌, ◌∷◌, [], vec_capacity, vec_len};
 ghost use Rattle.irig_journal.specs.{Held.Alone, Held.held, Sides.IsWhole, Sides.steps_on};
@@ -8,9 +7,8 @@ use crate::entry::Entry;
 use crate::size::Size;
 use std::alloc::Global;
 
-/// The steps on one side of the present. `changes` has the changes of all steps in one list;
-/// `entries` has for each step how many of these changes are its own, and its cursor. Both lists
-/// end with the nearest step. `IsWhole` says that these numbers add up to all changes.
+/// `changes` has the changes of all steps, `entries` for each step how many of these are its own,
+/// and its cursor. Both lists end with the nearest step.
 #[derive(Drop)]
 pub(crate) struct Side<C> {
     pub(crate) changes: Vec<C>,
@@ -18,7 +16,7 @@ pub(crate) struct Side<C> {
 }
 
 impl<C> Side<C> {
-    /// A side with no steps. It takes no memory.
+    /// A side with no steps.
     pub(crate) fn new(alloc: Global) -> Side<C>
         ensures steps { steps_on result ≡ [] }
         ensures whole { IsWhole result }
@@ -30,8 +28,8 @@ impl<C> Side<C> {
         }
     }
 
-    /// Adds a step of one change as the nearest, with the cursor of the state that it leads to. It
-    /// takes no memory: both lists have a place, so `unwrap` finds no error.
+    /// Adds a step of one change as the nearest; both lists have a place, so `unwrap` finds no
+    /// error.
     pub(crate) fn push(&mut self, change: C, cursor: usize)
         requires whole { IsWhole self.old }
         requires places { (vec_len self.old.changes < vec_capacity self.old.changes)

@@ -1,9 +1,4 @@
-//! The steps on both sides of the present, one after another, and past and future swapped. The past
-//! has the steps that can be undone, the future those that can be redone. Each has a list that ends
-//! with the step nearest to the present. `StepsLeft` shows the steps of such a list one after
-//! another: from its front if `from_oldest` is true, else from its end. `machine_of` is the machine
-//! of whole states that a journal means. A journal is ready at a state (`AreReady`) if its steps
-//! apply one after another from there, each with room for its turn.
+//! The steps on both sides of the present, one after another, and past and future swapped.
 
 ghost use Rattle.std.specs.Prelude.{◌≡◌, ℕ, None, reverse};
 ghost use Rattle.irig_journal.specs.Journal.{AreReady, future_of, machine_of, past_of};
@@ -15,7 +10,7 @@ use crate::steps_left::StepsLeft;
 use std::mem;
 
 impl<R: Reversible> Journal<R> {
-    /// The steps that can be undone, the oldest first. This takes no memory.
+    /// The steps that can be undone, the oldest first.
     pub fn past_steps(&self) -> StepsLeft<'_, R::Change>
         ensures { result ≡ reverse self.now.past }
     {
@@ -26,7 +21,7 @@ impl<R: Reversible> Journal<R> {
         }
     }
 
-    /// The steps that can be redone: first the one that is redone next. This takes no memory.
+    /// The steps that can be redone: first the one that is redone next.
     pub fn future_steps(&self) -> StepsLeft<'_, R::Change>
         ensures { result ≡ self.now.future }
     {
@@ -37,12 +32,8 @@ impl<R: Reversible> Journal<R> {
         }
     }
 
-    /// Swaps past and future; the state stays. Each step that could be undone can be redone then,
-    /// the oldest last, and each that could be redone can be undone. No group may be open. This
-    /// takes no memory.
-    ///
-    /// The opening of a saved journal needs it: the steps of the saved past are made as edits and
-    /// undone, so they are in the future, and the swap brings them to the past.
+    /// Swaps past and future. The opening of a saved journal needs it: the steps of the saved past
+    /// are made as edits and undone, so they are in the future.
     pub fn turn_round(&mut self)
         requires no_group { self.old.floor ≡ None }
         ensures past { past_of R.delta self.new ≡ future_of R.delta self.old }

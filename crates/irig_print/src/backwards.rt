@@ -1,11 +1,8 @@
-//! A line that is written from its last text to its first, each directly before those that are
-//! there. `end` is the index, from 0, after the last byte that is written, and the result is the
-//! index of the first. Bytes from `end` on do not change; what is before the result may.
+//! A line that is written from its last text to its first.
 
 ghost use Rattle.std.specs.Prelude.{◌≡◌, ◌≤◌, ◌+◌, ◌++◌, ◌∷◌, length, drop, decimal};
 
-/// Writes a text so that it ends at `end`, and returns where it starts. There is room for it: `end`
-/// is at least its length.
+/// Writes a text so that it ends at `end`, and returns where it starts.
 #[inline(always)]
 pub fn write_text(bytes: &mut [u8], end: usize, text: &[u8]) -> usize
     requires { (length text.now ≤ end) × (end ≤ length bytes.old) }
@@ -18,9 +15,7 @@ pub fn write_text(bytes: &mut [u8], end: usize, text: &[u8]) -> usize
     start
 }
 
-/// Writes a number in decimal and a space after it so that the space ends at `end`, and returns
-/// where the number starts. It has at most 20 digits, so 21 bytes before `end` have to be there.
-/// `write_digits` writes the digits so that they end before the space, and returns their start.
+/// A number in decimal and a space after it, in the same way: at most 21 bytes.
 #[inline(always)]
 pub fn write_number(bytes: &mut [u8], end: usize, number: u64) -> usize
     requires { (21 ≤ end) × (end ≤ length bytes.old) }

@@ -1,9 +1,4 @@
-//! The line that the command `frames` prints of a record. A record is a frame that was found: its
-//! marker, which is the pulse with which it begins, and what is reported of it. A row is a line of
-//! at most 256 bytes while it is put together. Each function writes at its end, and in its contract
-//! `room` says how many bytes may be in the row before, `short` how many are added at most. Both
-//! count the most digits that a number may have: 20 of `put_number`, 10 of `put_padded`, 16 of
-//! `put_hexadecimal`. Some leave a few bytes to spare.
+//! The line that the command `frames` prints of a record.
 
 ghost use Rattle.std.specs.Prelude.{◌≡◌, ◌≤◌, ◌+◌, ◌++◌, length};
 ghost use Rattle.irig_print.specs.FrameLine.{cause_word, name_word, note_text, time_text};
@@ -14,9 +9,7 @@ use crate::row::Row;
 use irig_codes::{Fields, Name, Note};
 use irig_index::{Cause, Verdict};
 
-/// Writes why a frame is broken at an element, in a word: `ended` if the track ends before its
-/// pulse, `step` if its pulse does not rise one interval after the pulse before, `class` if the
-/// width of its pulse is of no class that may be there.
+/// A word: `ended`, `step` or `class`.
 fn put_cause(row: &mut Row, cause: Cause)
     requires room { length row.old ≤ 249 }
     ensures text { row.new ≡ row.old ++ cause_word cause }
@@ -29,7 +22,7 @@ fn put_cause(row: &mut Row, cause: Cause)
     }
 }
 
-/// Writes the name of a field of a frame's time, in small letters.
+/// In small letters.
 fn put_name(row: &mut Row, name: Name)
     requires room { length row.old ≤ 240 }
     ensures text { row.new ≡ row.old ++ name_word name }
@@ -45,10 +38,7 @@ fn put_name(row: &mut Row, name: Name)
     }
 }
 
-/// Writes a space and what is noted of a frame that was read: `fine`; `field` and the name of the
-/// field that is wrong; `sbs` if the seconds of the day (straight binary seconds) disagree with the
-/// hours, minutes and seconds; `stray` and the first element, from 0, that is 1 though no field
-/// uses it.
+/// After a space: `fine`, `field` and its name, `sbs`, or `stray` and the element, from 0.
 fn put_note(row: &mut Row, note: Note)
     requires room { length row.old ≤ 220 }
     ensures text { row.new ≡ row.old ++ note_text note }
@@ -68,8 +58,7 @@ fn put_note(row: &mut Row, note: Note)
     }
 }
 
-/// Writes a point and the hundredths of a second with two digits. `None`, for a format without
-/// them, writes nothing.
+/// A point and two digits; nothing for a format without hundredths.
 fn put_hundredths(row: &mut Row, hundredths: Option<u32>)
     requires room { length row.old ≤ 240 }
     ensures text { row.new ≡ row.old ++ hundredths_text hundredths }
@@ -81,7 +70,7 @@ fn put_hundredths(row: &mut Row, hundredths: Option<u32>)
     }
 }
 
-/// Writes hours, minutes and seconds, each with two digits, as `12:34:56`.
+/// As `12:34:56`.
 fn put_clock(row: &mut Row, fields: &Fields)
     requires room { length row.old ≤ 200 }
     ensures text { row.new ≡ row.old ++ clock_text fields.now }
@@ -94,8 +83,7 @@ fn put_clock(row: &mut Row, fields: &Fields)
     row.put_padded(2, fields.seconds);
 }
 
-/// Writes the day of the year, with three digits, and the time of day, as `061 12:34:56`, or `061
-/// 12:34:56.78` if the format has hundredths.
+/// The day of the year and the time of day, as `061 12:34:56`, or `061 12:34:56.78`.
 pub fn put_time(row: &mut Row, fields: &Fields)
     requires room { length row.old ≤ 80 }
     ensures text { row.new ≡ row.old ++ time_text fields.now }
@@ -107,9 +95,7 @@ pub fn put_time(row: &mut Row, fields: &Fields)
     put_hundredths(row, fields.hundredths);
 }
 
-/// Writes the parts that only some coded expressions carry, each after its name: the year with two
-/// digits, the second of the day (`sbs`), and the control functions in hexadecimal (`control`). A
-/// part that is `None` is left out.
+/// What only some coded expressions carry, each after its name: the year, `sbs`, `control`.
 fn put_parts(row: &mut Row, fields: &Fields)
     requires room { length row.old ≤ 140 }
     ensures text { row.new ≡ row.old ++ parts_text fields.now }
@@ -129,9 +115,7 @@ fn put_parts(row: &mut Row, fields: &Fields)
     }
 }
 
-/// Writes what is reported of a frame (`Verdict`). If it is broken: at which element, from 0, and
-/// why, as `broken 19 class`. If it could be read: its time, the parts that its expression carries
-/// and what is noted of it, as `061 12:34:56 year 24 sbs 45296 control 0 fine`.
+/// As `broken 19 class`, or `061 12:34:56 year 24 sbs 45296 control 0 fine`.
 pub fn put_verdict(row: &mut Row, verdict: &Verdict)
     requires room { length row.old ≤ 80 }
     ensures text { row.new ≡ row.old ++ verdict_text verdict.now }
@@ -153,7 +137,7 @@ pub fn put_verdict(row: &mut Row, verdict: &Verdict)
 }
 
 /// Clears the row and writes the line of a record: its number and that of its marker's pulse, both
-/// from 1, the marker's rise in microseconds, and what is reported of the frame; then a newline.
+/// from 1, the marker's rise in microseconds, and what is reported of the frame.
 pub fn put_frame(row: &mut Row, number: u64, marker: u64, rise: u64, verdict: &Verdict)
     ensures line { row.new ≡ frame_line number marker rise verdict.now }
 {

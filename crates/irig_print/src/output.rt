@@ -1,5 +1,4 @@
-//! Bytes that are written whole. In the contract, `Prints` says that all of them came to the
-//! output, or after an error a front of them.
+//! Bytes that are written whole.
 
 ghost use Rattle.irig_print.specs.Front.{Prints};
 
@@ -9,9 +8,8 @@ use std::io::Write;
 #[derive(Clone, Copy)]
 pub struct PrintFault;
 
-/// Writes all of the bytes, in as many writes as that takes; no bytes, no write. If a write fails
-/// or takes no byte, the answer is `PrintFault`, which says no more. Then a front of the bytes may
-/// be out, but not all.
+/// Writes all of the bytes, in as many writes as that takes. If a write fails or takes no byte, a
+/// front of the bytes may be out, but not all.
 pub fn put_all<W: Write>(out: &mut W, bytes: &[u8]) -> Result<(), PrintFault>
     ensures { Prints (W.contents out.old) (W.contents out.new) bytes.now result }
 {

@@ -8,16 +8,11 @@ use crate::backwards::{write_number, write_text};
 use irig_codes::{Element, Format, class, class_word};
 use irig_recording::Pulse;
 
-/// The most bytes of the line: three numbers of 20 digits, each with a space, and a word of 8
-/// letters with a newline.
+/// Three numbers of 20 digits, each with a space, and a word of 8 letters with a newline.
 pub const LINE_ROOM: usize = 72;
 
-/// Writes the line of a pulse so that it ends at `end`, the index after its last byte, and returns
-/// the index of its first. The line has the pulse's number, from 1, its rise and its fall in
-/// microseconds, and the word of the element that its width means, or `bad`. The line is written
-/// from its end, so that no digits have to be counted: each of `word`, `fall`, `rise` is the index
-/// at which that part of the line starts. A fall before the rise would be a width of 0: no
-/// recording has one, but the type of a pulse permits it.
+/// Writes the line of a pulse so that it ends at `end`, and returns the index of its first byte:
+/// its number, from 1, its rise and its fall in microseconds, and the word of its class.
 pub fn write_pulse(bytes: &mut [u8], end: usize, format: Format, number: u64, pulse: Pulse) -> usize
     requires { (72 ≤ end) × (end ≤ length bytes.old) }
     ensures start { (end ≤ result + 72) × (result ≤ length bytes.old) }
@@ -32,11 +27,8 @@ pub fn write_pulse(bytes: &mut [u8], end: usize, format: Format, number: u64, pu
     write_number(bytes, rise, number)
 }
 
-/// Writes the word of a class and a newline so that they end at `end`, and returns the index at
-/// which the word starts. A class is the element that a width means, or `None` if the width is bad.
-/// `class_word` gives eight bytes, `letters`, and where in them the word starts: it is their end.
-/// All eight are written, which is faster than a part of them. The numbers of the line are later
-/// written over those before the word.
+/// Writes the word of a class and a newline. All eight bytes of the word are written, which is
+/// faster than a part of them: the numbers are later written over those before it.
 #[inline(always)]
 fn write_class(bytes: &mut [u8], end: usize, class: Option<Element>) -> usize
     requires { (9 ≤ end) × (end ≤ length bytes.old) }

@@ -10,16 +10,16 @@ use std::marker::Model;
 /// The most bytes of a printed line.
 const ROW_LIMIT: usize = 256;
 
-/// The most decimal digits of a `u64`.
+/// Decimal, of a `u64`.
 const LONG_DIGITS: usize = 20;
 
-/// The most decimal digits of a `u32`.
+/// Decimal, of a `u32`.
 const SHORT_DIGITS: usize = 10;
 
-/// The most hexadecimal digits of a `u64`.
+/// Of a `u64`.
 const HEXADECIMAL_DIGITS: usize = 16;
 
-/// One printed line of at most 256 bytes, while it is put together. It takes no memory.
+/// At most 256 bytes; it takes no memory.
 #[derive(Drop)]
 pub struct Row {
     bytes: [u8; ROW_LIMIT],
@@ -55,14 +55,13 @@ impl Row {
         &self.bytes[..self.len]
     }
 
-    /// Makes the line empty.
     pub fn clear(&mut self)
         ensures { self.new ≡ [] }
     {
         self.len = 0;
     }
 
-    /// Writes bytes at the end. There has to be room for them: a line has at most 256 bytes.
+    /// Writes bytes at the end.
     pub fn put(&mut self, text: &[u8])
         requires room { length self.old + length text.now ≤ 256 }
         ensures text { self.new ≡ self.old ++ text.now }
@@ -72,8 +71,7 @@ impl Row {
         self.len = len + text.len();
     }
 
-    /// Writes a number in decimal at the end, with at most 20 digits. `write_digits` writes them so
-    /// that they end at the end of the array, and returns where they start.
+    /// In decimal, at the end.
     pub fn put_number(&mut self, number: u64)
         requires room { length self.old ≤ 236 }
         ensures text { self.new ≡ self.old ++ decimal number }
@@ -84,9 +82,7 @@ impl Row {
         self.put(&digits[start..]);
     }
 
-    /// Writes a number in decimal at the end, with zeros before it if it has fewer digits than
-    /// `width`, which is at most 3. A number with more digits is written whole: a `u32` has at most
-    /// 10.
+    /// In decimal, with zeros before it if it has fewer digits than `width`.
     pub fn put_padded(&mut self, width: usize, number: u32)
         requires narrow { width ≤ 3 }
         requires room { length self.old ≤ 246 }
@@ -100,8 +96,7 @@ impl Row {
         self.put(&digits[start..]);
     }
 
-    /// Writes a number in lower-case hexadecimal at the end, without zeros before it; 0 is `0`. The
-    /// loop makes the last digit first, at the end of the array.
+    /// In lower-case hexadecimal, without zeros before it; 0 is `0`.
     pub fn put_hexadecimal(&mut self, number: u64)
         requires room { length self.old ≤ 240 }
         ensures text { self.new ≡ self.old ++ hexadecimal number }
@@ -120,7 +115,7 @@ impl Row {
     }
 }
 
-/// The byte of a hexadecimal digit, `0` to `9` or `a` to `f`: 48 is `0`, and 87 is ten before `a`.
+/// `0` to `9` or `a` to `f`: 48 is `0`, and 87 is ten before `a`.
 fn glyph(digit: u64) -> u8
     requires { digit < 16 }
     ensures { result ≡ digit_glyph false digit }

@@ -1,18 +1,4 @@
-//! The edits of a track: splice, shift and toggle, each with the test that it may be made. A splice
-//! replaces pulses by others, a shift moves pulses in time, and a toggle inverts the level between
-//! two times.
-//!
-//! None of the edits takes memory or can fail: a caller asks the test first, and makes room before.
-//!
-//! Times are in microseconds. The limits: pulses do not touch (each rises at least 1 after the fall
-//! before it), they lie within the length, and there are at most 2^22. The place of a gap buffer is
-//! where items come and go. A `Span` says that from pulse `at` on, from 0, `old` pulses became
-//! `new`. `room` is how many more pulses the limit permits, and `spare`, in contracts, how many
-//! more fit in the memory that is taken. There, too, `piece at count` are that many items from `at`
-//! on, and `spliced at count put` is the list with this piece replaced by `put`. A clause `edges`
-//! says of each time whether an edge is there afterwards.
-//!
-//! What is marked "Read for .." does nothing: it only lets the proof use what a type promises.
+//! The edits of a track: splice, shift and toggle, each with the test that it may be made.
 
 ghost use Rattle.std.specs.Prelude.{◌≡◌, ◌+◌, ◌-◌, ◌^◌, ◌<◌, ◌≤◌, ◌↔◌, ℕ, length, take, drop, []};
 ghost use Rattle.std.specs.Prelude.{IsTrue};
@@ -34,9 +20,7 @@ use irig_recording::Pulse;
 
 impl Track {
     /// Whether replacing `count` pulses from `at` on, from 0, by those of `put` leaves a track
-    /// within the limits. It is false, too, if the pulses that would go are not there, or if there
-    /// would be more than the limit (`room`). Only `put` is looked through: its pulses have to fit
-    /// (`stands`) between the pulses that stay on both sides (`free_from`, `free_to`).
+    /// within the limits. Only `put` is looked through: it has to fit between the pulses that stay.
     pub fn can_splice(&self, at: usize, count: usize, put: &Gap<Pulse>) -> bool
         ensures { IsTrue result ↔ CanSplice self.now.micros at count put.now.items self.now.pulses }
     {
@@ -51,10 +35,8 @@ impl Track {
         stands(put, self.free_from(at), self.free_to(at + count))
     }
 
-    /// Replaces the `count` pulses from `at` on, from 0, by the pulses of `put`; `can_splice` must
-    /// hold, and there must be memory for the new pulses. `put` is empty afterwards. The replaced
-    /// pulses go to `taken`, which must be empty and have room for them; its place is after them
-    /// then. The Span has `at`, and how many went and came.
+    /// Replaces the `count` pulses from `at` on, from 0, by those of `put`, which is empty then.
+    /// The replaced ones go to `taken`, which must be empty and have room for them.
     pub fn splice(
         &mut self,
         at: usize,
@@ -80,7 +62,7 @@ impl Track {
             × (result.new ≡ length put.old.items) }
         ensures spanned { IsSpan result.at result.old result.new self.old.pulses self.new.pulses }
     {
-        // Read for its bound alone.
+        // For its bound.
         let _count = self.pulses.len();
         let come = put.len();
         replace(&mut self.pulses, at, count, put, taken);
@@ -92,12 +74,8 @@ impl Track {
     }
 
     /// Whether moving the pulses `i` to `j`, both included and from 0, by `by` microseconds leaves
-    /// a track within the limits. It is false, too, if one of them is not there, or `i` is above
-    /// `j`. All move by the same distance, so only the first rise and the last fall are tested,
-    /// against the pulses on both sides. `ahead_of(by)` is `by`, or 0 if that is below 0;
-    /// `back_of(by)` is how far `by` is below 0, or 0. Each side of a comparison is a sum, since a
-    /// difference could go below 0. No sum overflows: a time is at most 2^40 + 1, and a distance at
-    /// most 2^63.
+    /// a track within the limits. Each side of a comparison is a sum, since a difference could go
+    /// below 0.
     pub fn can_shift(&self, i: usize, j: usize, by: i64) -> bool
         ensures { IsTrue result ↔ CanShift self.now.micros i j by self.now.pulses }
     {
@@ -110,9 +88,7 @@ impl Track {
         self.free_from(i) + back <= first && last < self.free_to(j + 1) + back
     }
 
-    /// Moves the pulses `i` to `j`, both included and from 0, by `by` microseconds, below 0 to
-    /// earlier times; `can_shift` must hold. `ahead_of` and `back_of` are the parts of `by` above
-    /// and below 0: one of them is 0. The Span says which pulses moved: as many as before.
+    /// Moves the pulses `i` to `j`, both included, by `by` microseconds, below 0 to earlier times.
     pub fn shift(&mut self, i: usize, j: usize, by: i64) -> Span
         requires { CanShift self.old.micros i j by self.old.pulses }
         ensures pulses { self.new.pulses ≡ shifted i j by self.old.pulses }
@@ -135,10 +111,7 @@ impl Track {
     }
 
     /// Whether toggling the edges at the times `a` and `b`, in microseconds, leaves a track within
-    /// the limits. It is false, too, unless `a` is before `b` and `b` within the length. There is
-    /// one pulse more afterwards only if neither time has an edge, so only then the limit has to
-    /// permit one more. Nothing tests that pulses do not touch: they would if two edges were at one
-    /// time, but a toggle adds an edge only at a time that has none.
+    /// the limits. There is one pulse more only if neither time has an edge.
     pub fn can_toggle(&self, a: u64, b: u64) -> bool
         ensures { IsTrue result ↔ CanToggle self.now.micros a b self.now.pulses }
     {
@@ -148,12 +121,9 @@ impl Track {
         self.room() > 0 || self.is_edge_at(a) || self.is_edge_at(b)
     }
 
-    /// Toggles the edges at the times `a` and `b`, in microseconds: if an edge is at such a time it
-    /// goes, and if none is there one comes. So the level is inverted from `a` to `b`. `can_toggle`
-    /// must hold, and there must be memory for one pulse more, also if none comes.
-    ///
-    /// The Span has the pulses that rise at or before `b` and fall at or after `a`: how many these
-    /// were before (`old`), and how many they are afterwards (`new`).
+    /// Toggles the edges at the times `a` and `b`, in microseconds: one that is there goes, else
+    /// one comes, so the level is inverted between them. The Span has the pulses that rise at or
+    /// before `b` and fall at or after `a`.
     pub fn toggle(&mut self, a: u64, b: u64) -> Span
         requires can { CanToggle self.old.micros a b self.old.pulses }
         requires spare { 0 < self.old.spare }
@@ -169,13 +139,13 @@ impl Track {
         ensures spanned { IsSpan result.at result.old result.new self.old.pulses self.new.pulses }
     {
         // Pulses before `at` fall before `a`, and pulses from `before` on rise after `b`: these
-        // stay. `toggle_right` leaves the gap after the pulses that rise at or before `b` then.
+        // stay.
         let at = self.first_reaching(a);
         let before = self.find(b);
         self.pulses.move_to(at);
         toggle_right(&mut self.pulses, a, b);
         let end = self.pulses.gap_at();
-        // Read for its bound alone.
+        // For its bound.
         let _count = self.pulses.len();
         Span {
             at,
@@ -184,9 +154,7 @@ impl Track {
         }
     }
 
-    /// The least time, in microseconds, at which a pulse may rise that is inserted just before
-    /// pulse `at`, from 0: one after the fall of pulse `at` - 1; 0 if `at` is 0. A time is at most
-    /// 2^40, so this is at most one more (`within`): no sum of a caller is too large.
+    /// The least time at which a pulse just before pulse `at` may rise, in microseconds.
     fn free_from(&self, at: usize) -> u64
         requires { at ≤ length self.now.pulses }
         ensures time { result ≡ following 0 (edges_of (take at self.now.pulses)) }
@@ -199,9 +167,7 @@ impl Track {
         }
     }
 
-    /// The time, in microseconds, before which a pulse has to fall that is inserted just before
-    /// pulse `at`, from 0: the rise of pulse `at`; one after the length if there is no such pulse.
-    /// The length is at most 2^40, so this is at most one more (`within`).
+    /// The time before which a pulse just before pulse `at` has to fall, in microseconds.
     fn free_to(&self, at: usize) -> u64
         requires { at ≤ length self.now.pulses }
         ensures time { result ≡

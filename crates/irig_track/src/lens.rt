@@ -1,6 +1,4 @@
-//! A track shown through a lens, which counts the looks at its pulses. So contracts can say how
-//! much work a search takes. A lens also shows a recording that is longer than a track may be. A
-//! clause `track` says again what the type promises, for the proofs of callers.
+//! A track shown through a lens, which counts the looks at its pulses.
 
 ghost use Rattle.std.specs.Prelude.{◌≡◌, ◌-◌, ◌<◌, ◌≤◌, ◌^◌, ℕ, length, slice_get, Some};
 ghost use Rattle.irig_track.specs.Looks.{LookedThrough, lens_view, counted};
@@ -21,12 +19,8 @@ impl Track {
     }
 }
 
-/// Shows a track, and counts how often a pulse was looked at. It copies no pulse.
-///
-/// The limits are a length of 2^40 microseconds and 2^26 pulses.
-///
-/// Who is handed a lens reaches the pulses through `pulse` and `find` alone, so its looks bound its
-/// work.
+/// Shows a track of up to 2^40 microseconds and 2^26 pulses, and counts how often a pulse was
+/// looked at. Only `pulse` and `find` reach the pulses, so the looks bound the work.
 #[derive(Drop)]
 pub struct Lens<'a> {
     micros: u64,
@@ -49,8 +43,7 @@ impl<'a> Model for Lens<'a> {
 }
 
 impl<'a> Lens<'a> {
-    /// A lens on a recording, which has counted no look: it shows the recording's length and pulses
-    /// as those of a track.
+    /// A lens on a recording, of which it copies no pulse.
     pub fn of(recording: &'a LongRecording) -> Lens<'a>
         ensures length { result.track.micros ≡ recording.now.micros }
         ensures edges { edges_of result.track.pulses ≡ recording.now.edges }
@@ -59,8 +52,7 @@ impl<'a> Lens<'a> {
         Lens::on(recording.length(), recording.pulses())
     }
 
-    /// A lens on a length in microseconds and on pulses with times in microseconds. It has counted
-    /// no look. The caller has both from a track or a recording, so they keep the limits of `Lens`.
+    /// The caller has both from a track or a recording, so they keep the limits.
     fn on(micros: u64, pulses: &'a Gap<Pulse>) -> Lens<'a>
         requires { IsLongTrack micros pulses.now.items }
         ensures { result ≡ lens_view (track_view micros pulses.now.items
@@ -89,8 +81,7 @@ impl<'a> Lens<'a> {
         self.micros
     }
 
-    /// The pulse at `index`, from 0. It is counted as a look: `left` goes down by 1, and stays at 0
-    /// once it is there.
+    /// The pulse at `index`, from 0, counted as a look.
     pub fn pulse(&mut self, index: usize) -> Pulse
         requires { index < length self.old.track.pulses }
         ensures value { slice_get self.old.track.pulses index ≡ Some result }
@@ -102,9 +93,7 @@ impl<'a> Lens<'a> {
         self.pulses.get(index)
     }
 
-    /// How many pulses rise at or before `time`, in microseconds: a search that halves the rest at
-    /// each look, and counts each. It makes no more looks than the number of pulses has binary
-    /// digits. It is inlined, so that `Track::find`, whose looks nobody reads, does not count them.
+    /// By halves. Inlined, so that `Track::find`, whose looks nobody reads, does not count them.
     #[inline(always)]
     pub fn find(&mut self, time: u64) -> usize
         ensures count { result ≡ risen_by time self.old.track.pulses }

@@ -1,11 +1,4 @@
-//! Moves pulses in time. `Gap` is a gap buffer: a list that items are put into at a place.
-//!
-//! A distance is in microseconds, and below 0 if it goes back to earlier times. In contracts,
-//! `piece at count` are that many items from `at` on, and `spliced at count put` is the list with
-//! this piece replaced by `put`. `gap_view` is a buffer with some items, its place and its
-//! capacity.
-//!
-//! What is marked "Read for .." does nothing: it only lets the proof use what a type promises.
+//! Moves pulses in time.
 
 ghost use Rattle.std.specs.Prelude.{◌≡◌, ◌+◌, ◌-◌, ◌^◌, ◌<◌, ◌≤◌, length, map};
 ghost use Rattle.irig_gap.specs.Items.{gap_view};
@@ -16,7 +9,7 @@ ghost use Rattle.irig_track.specs.{Edges.edges_of, Splices.spliced, Splices.piec
 use irig_gap::Gap;
 use irig_recording::Pulse;
 
-/// By how many microseconds a distance `by` goes on, to later times: 0 if it goes back.
+/// To later times, in microseconds; 0 if it goes back.
 pub(crate) fn ahead_of(by: i64) -> u64
     ensures distance { result ≡ ahead by }
     ensures within { result < 2 ^ 63 }
@@ -24,7 +17,7 @@ pub(crate) fn ahead_of(by: i64) -> u64
     if by < 0 { 0 } else { by.unsigned_abs() }
 }
 
-/// By how many microseconds a distance `by` goes back, to earlier times: 0 if it goes on.
+/// To earlier times, in microseconds; 0 if it goes on.
 pub(crate) fn back_of(by: i64) -> u64
     ensures distance { result ≡ back by }
     ensures within { result ≤ 2 ^ 63 }
@@ -32,10 +25,8 @@ pub(crate) fn back_of(by: i64) -> u64
     if by < 0 { by.unsigned_abs() } else { 0 }
 }
 
-/// Moves `count` pulses from `at` on, from 0: by `on` microseconds later, and then by `off`
-/// earlier. One of these two is 0. The caller has tested that no time comes before 0, so
-/// `saturating_sub` cuts nothing off. Times are at most 2^40 and `on` below 2^63, so no sum
-/// overflows.
+/// Moves `count` pulses from `at` on, from 0, by `on` microseconds later and then by `off` earlier;
+/// one is 0. The caller has tested that no time comes before 0.
 pub(crate) fn move_pulses(pulses: &mut Gap<Pulse>, at: usize, count: usize, on: u64, off: u64)
     requires there { at + count ≤ length pulses.old.items }
     requires short { UpTo (2 ^ 40) (edges_of pulses.old.items) }
@@ -46,7 +37,7 @@ pub(crate) fn move_pulses(pulses: &mut Gap<Pulse>, at: usize, count: usize, on: 
         pulses.old.items)
         pulses.old.place pulses.old.capacity }
 {
-    // Read for its bound alone.
+    // For its bound.
     let _count = pulses.len();
     let mut moved = 0;
     while moved < count {

@@ -1,8 +1,4 @@
-//! The pulses on both sides of a gap. A gap buffer has a place, the gap, with items left and right
-//! of it; items come and go there. In contracts, `Took` says that a pulse went from the right side,
-//! and `Wrote` that one came to the left side.
-//!
-//! What is marked "Read for .." does nothing: it only lets the proof use what a type promises.
+//! The pulses on both sides of a gap.
 
 ghost use Rattle.std.specs.Prelude.{◌≡◌, ◌+◌, ◌<◌, ◌≤◌, ◌++◌, ◌∷◌, [], length, slice_get, Some};
 ghost use Rattle.std.specs.Prelude.{IsSome};
@@ -12,8 +8,7 @@ ghost use Rattle.irig_recording.specs.declared.pulse.Pulse.{Pulse};
 use irig_gap::Gap;
 use irig_recording::Pulse;
 
-/// The first pulse right of the gap; `None` if there is none. It stays there. `within` says again
-/// what a buffer promises, for the proofs of callers.
+/// The first pulse right of the gap; it stays there.
 pub(crate) fn next(pulses: &Gap<Pulse>) -> Option<Pulse>
     ensures next { result ≡ slice_get (right_of pulses.now) 0 }
     ensures inside { IsSome result → pulses.now.place < length pulses.now.items }
@@ -28,7 +23,7 @@ pub(crate) fn next(pulses: &Gap<Pulse>) -> Option<Pulse>
     }
 }
 
-/// Removes the first pulse right of the gap. It has to be there: the caller has seen it by `next`.
+/// Removes the first pulse right of the gap.
 pub(crate) fn take_next(pulses: &mut Gap<Pulse>)
     requires { pulses.old.place < length pulses.old.items }
     ensures took { (p : Pulse) →
@@ -40,8 +35,7 @@ pub(crate) fn take_next(pulses: &mut Gap<Pulse>)
     pulses.take_right();
 }
 
-/// Adds a pulse just left of the gap, by its times in microseconds. The caller has made room for
-/// it.
+/// Adds a pulse just left of the gap, by its times in microseconds.
 pub(crate) fn put_last(pulses: &mut Gap<Pulse>, rise: u64, fall: u64)
     requires { length pulses.old.items < pulses.old.capacity }
     ensures wrote { Wrote (pulse rise fall) pulses.old pulses.new }
@@ -49,7 +43,7 @@ pub(crate) fn put_last(pulses: &mut Gap<Pulse>, rise: u64, fall: u64)
     ensures rest { (pulses.new.place ≡ pulses.old.place + 1)
         × (pulses.new.capacity ≡ pulses.old.capacity) }
 {
-    // Read for its bound alone.
+    // For its bound.
     let _place = pulses.gap_at();
     pulses.put(Pulse { rise, fall });
 }

@@ -1,11 +1,4 @@
 //! Replaces pulses of a gap buffer by those of another.
-//!
-//! A gap buffer has a place, the gap, where items come and go. Pulses count from 0. In contracts,
-//! `piece at count` are that many items from `at` on, and `spliced at count put` is the list with
-//! this piece replaced by `put`. `gap_view` is a buffer with some items, its place and its
-//! capacity.
-//!
-//! What is marked "Read for .." does nothing: it only lets the proof use what a type promises.
 
 ghost use Rattle.std.specs.Prelude.{◌≡◌, ◌+◌, ◌<◌, ◌≤◌, ◌++◌, [], length};
 ghost use Rattle.irig_gap.specs.Items.{gap_view};
@@ -14,10 +7,8 @@ ghost use Rattle.irig_track.specs.Splices.{spliced, piece};
 use irig_gap::Gap;
 use irig_recording::Pulse;
 
-/// Replaces the `count` pulses from `at` on, from 0, by all those of `put`, which is empty
-/// afterwards. The replaced ones go to `taken`, which must be empty. The caller has made room in
-/// `pulses` and `taken`, so no memory is taken. If as many come as go, no other pulse is moved in
-/// memory (`exchange`).
+/// Replaces the `count` pulses from `at` on, from 0, by all those of `put`. If as many come as go,
+/// no other pulse is moved in memory.
 pub(crate) fn replace(
     pulses: &mut Gap<Pulse>,
     at: usize,
@@ -44,7 +35,7 @@ pub(crate) fn replace(
     if count == come {
         exchange(pulses, at, count, put, taken);
     } else {
-        // Read for its bound alone.
+        // For its bound.
         let _count = pulses.len();
         pulses.move_to(at);
         carry(pulses, count, taken);
@@ -52,10 +43,7 @@ pub(crate) fn replace(
     }
 }
 
-/// Replaces the `count` pulses from `at` on, from 0, by the `count` pulses of `put`, as `replace`
-/// says. As many come as go, so each is written over by one of `put`, and the gap stays where it
-/// is. `taken` gets the replaced ones. All pulses of `put` are right of its gap, so `None` does not
-/// come.
+/// As many come as go, so each is written over, and the gap stays where it is.
 fn exchange(
     pulses: &mut Gap<Pulse>,
     at: usize,
@@ -74,7 +62,7 @@ fn exchange(
         gap_view (piece at count pulses.old.items) count taken.old.capacity }
     ensures put { put.new ≡ gap_view [] 0 put.old.capacity }
 {
-    // Read for its bound alone.
+    // For its bound.
     let _len = pulses.len();
     let mut moved = 0;
     while moved < count {
@@ -89,9 +77,7 @@ fn exchange(
     }
 }
 
-/// Moves the first `count` pulses right of the gap of `from` to just left of the gap of `to`, which
-/// has room for them, in the same order. The caller has seen that they are there, so `None` does
-/// not come.
+/// Moves the first `count` pulses right of one gap to just left of the other, in the same order.
 fn carry(from: &mut Gap<Pulse>, count: usize, to: &mut Gap<Pulse>)
     requires there { from.old.place + count ≤ length from.old.items }
     requires room { length to.old.items + count ≤ to.old.capacity }
@@ -104,7 +90,7 @@ fn carry(from: &mut Gap<Pulse>, count: usize, to: &mut Gap<Pulse>)
         (to.old.place + count) to.old.capacity }
 {
     let mut moved = 0;
-    // Read for its bound alone.
+    // For its bound.
     let _place = to.gap_at();
     while moved < count {
         match from.take_right() {

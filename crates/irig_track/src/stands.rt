@@ -1,5 +1,4 @@
-//! Whether pulses fit between two times, as those that a splice puts in. They are in a gap buffer,
-//! a list of which only the items and their order count here.
+//! Whether pulses fit between two times.
 
 ghost use Rattle.std.specs.Prelude.{◌≡◌, ◌+◌, ◌<◌, ◌≤◌, ◌++◌, ◌∷◌, [], IsTrue, ◌↔◌};
 ghost use Rattle.irig_recording.specs.Recording.{RisesFrom};
@@ -8,9 +7,7 @@ ghost use Rattle.irig_track.specs.Edges.{edges_of};
 use irig_gap::Gap;
 use irig_recording::Pulse;
 
-/// Whether the pulses fit from `start` up to `high`, which is not included, all in microseconds:
-/// the first rises at `start` or later, each next one after the fall before it, each falls after
-/// its rise, and the last before `high`. If there is no pulse: whether `start` is at most `high`.
+/// From `start` up to `high`, which is not included, in microseconds.
 pub(crate) fn stands(put: &Gap<Pulse>, start: u64, high: u64) -> bool
     ensures { IsTrue result ↔ RisesFrom start (edges_of put.now.items ++ high ∷ []) }
 {

@@ -1,13 +1,4 @@
 //! Toggles two times among the pulses right of a gap.
-//!
-//! The pulses are in a gap buffer, a list with a gap; left of it is what is done. When the first
-//! time is toggled and the second is not yet, there is an odd number of edges: pulses left of the
-//! gap, a rise that waits for its fall, and pulses right of the gap. `next` is the first pulse
-//! right of it, and `put_last` adds one just left of it.
-//!
-//! To toggle a time: an edge there goes, or if there was none one comes. Times are in microseconds.
-//! In contracts, `waiting` are all edges with the rise that waits, `Under a` says that edges are
-//! before `a`, and `Stays b` that no pulse which rises after `b` goes or comes.
 
 ghost use Rattle.std.specs.Prelude.{◌≡◌, ◌+◌, ◌-◌, ◌<◌, ◌≤◌, ◌++◌, ◌∷◌, [], length};
 ghost use Rattle.irig_recording.specs.Recording.{RisesFrom};
@@ -19,13 +10,8 @@ use crate::sides::{next, put_last, take_next};
 use irig_gap::Gap;
 use irig_recording::Pulse;
 
-/// Toggles `a`, and returns the rise that waits for its fall. Pulses left of the gap fall before
-/// `a`, those right of it at `a` or later. What waits depends on the next pulse:
-///
-/// - It rises after `a`, or is not there: `a` itself waits, as a new rise.
-/// - It rises at `a`: that edge goes, and its fall waits as a rise.
-/// - It falls at `a`: that edge goes, and its rise waits.
-/// - `a` is inside of it: it ends at `a`, and its fall waits as a rise.
+/// Toggles `a`, and returns the rise that waits for its fall: `a` itself, if the next pulse rises
+/// after it; the other edge of that pulse, if one is at `a`; else its fall, as `a` is inside of it.
 fn begin(pulses: &mut Gap<Pulse>, a: u64) -> u64
     requires rises { RisesFrom 0 (edges_of pulses.old.items) }
     requires left { Under a (edges_of (left_of pulses.old)) }
@@ -50,9 +36,8 @@ fn begin(pulses: &mut Gap<Pulse>, a: u64) -> u64
     }
 }
 
-/// Goes on over all pulses that rise before time `b`, with `start` as the rise that waits, and
-/// returns the rise that waits after them. The number of edges before these pulses is odd, so each
-/// of their rises becomes a fall and each fall a rise.
+/// Goes on over all pulses that rise before `b`. The number of edges before them is odd, so each
+/// rise becomes a fall and each fall a rise.
 fn go_on(pulses: &mut Gap<Pulse>, start: u64, b: u64) -> u64
     requires rises { RisesFrom 0 (waiting pulses.old start) }
     requires left { Under b (edges_of (left_of pulses.old)) }
@@ -74,13 +59,8 @@ fn go_on(pulses: &mut Gap<Pulse>, start: u64, b: u64) -> u64
     rise
 }
 
-/// Toggles `b`; `rise` is the rise that waits. If the next pulse rises at `b`, that edge goes: this
-/// pulse now rises at `rise`. Else there are three cases:
-///
-/// - `rise` is before `b`: a pulse from `rise` to `b` is added.
-/// - `rise` is after `b`, as it was the fall of a pulse over `b`: a pulse from `b` to `rise` is
-///   added.
-/// - `rise` is `b`: the toggle removes it, and no pulse is added.
+/// Toggles `b`. If the next pulse rises at `b`, it now rises at `rise`; else a pulse between `rise`
+/// and `b`, in their order, is added, or none if they are the same time.
 fn finish(pulses: &mut Gap<Pulse>, rise: u64, b: u64)
     requires rises { RisesFrom 0 (waiting pulses.old rise) }
     requires left { Under b (edges_of (left_of pulses.old)) }
@@ -103,9 +83,8 @@ fn finish(pulses: &mut Gap<Pulse>, rise: u64, b: u64)
     }
 }
 
-/// Toggles `a` and `b`; `a` is the earlier one. Before the call the pulses that fall at `a` or
-/// later are right of the gap; after it those that rise after `b` are. There has to be room for one
-/// pulse more.
+/// Toggles `a` and the later `b`. Before the call the pulses that fall at `a` or later are right of
+/// the gap, after it those that rise after `b`.
 pub(crate) fn toggle_right(pulses: &mut Gap<Pulse>, a: u64, b: u64)
     requires order { a < b }
     requires rises { RisesFrom 0 (edges_of pulses.old.items) }

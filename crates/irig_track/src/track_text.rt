@@ -1,11 +1,4 @@
 //! The text of a track, in parts.
-//!
-//! The text is a dump: header lines, two lines for each edge above 0, and a line of the length if
-//! the last edge is not there. An edge at 0 is part of the header. The writer (`TextWriter` of
-//! irig_recording) writes them, and has the last time that it wrote. What fails, fails only if
-//! memory runs out. A text has `enough` bytes if it has at least as many: the part that is added
-//! last may go past them. In contracts, `still_to_come` and `lines_after` are the bytes of the text
-//! that are not written yet.
 
 ghost use Rattle.std.specs.Prelude.{◌≡◌, ◌≤◌, ◌<◌, ◌++◌, drop, length, vec_len, IfOk, IsSome};
 ghost use Rattle.irig_recording.specs.{FileText.file_text, Recording.recording_view};
@@ -31,7 +24,7 @@ impl Track {
     }
 }
 
-/// The text of a track, in parts: the header, the lines of each pulse, and the line of the length.
+/// The header, the lines of each pulse, and the line of the length.
 #[derive(Drop)]
 pub struct TrackText<'t> {
     track: &'t Track,
@@ -44,9 +37,8 @@ pub struct TrackText<'t> {
 enum Next {
     /// The lines before the first pulse.
     Header,
-    /// The lines of the pulse with this number, from 0, or the line of the length after the last.
+    /// Of the pulse with this number, from 0, or the line of the length after the last.
     Lines(usize),
-    /// The text has ended.
     Nothing,
 }
 
@@ -62,8 +54,7 @@ impl<'t> Model for TrackText<'t> {
 impl Text for TrackText<'_> {
     ghost rest = { λ t. t };
 
-    // Adds the next parts to the block until it has `enough` bytes. Returns `true` if the text has
-    // ended; `false` if the next call goes on from there. It fails only if memory runs out.
+    // Returns whether the text has ended.
     fn fill(&mut self, block: &mut Vec<u8>, enough: usize) -> Result<bool, AllocError> {
         match put_next(&mut self.writer, block, self.track, self.next, enough)? {
             Some(first) => {
@@ -78,9 +69,8 @@ impl Text for TrackText<'_> {
     }
 }
 
-/// Adds what comes next (`put_header`, `put_lines`) to `text`, until that has `enough` bytes.
-/// Returns the number of the pulse whose lines come next, from 0; `None` if the text has ended,
-/// also if it had before. It is inlined, so that the next lines are added without one call more.
+/// Adds what comes next until the text has `enough` bytes. Returns the pulse whose lines come next,
+/// from 0; `None` if the text has ended. Inlined, to save a call.
 #[inline(always)]
 fn put_next(
     writer: &mut TextWriter,
@@ -99,10 +89,8 @@ fn put_next(
     }
 }
 
-/// Adds the header to `text` if that comes next, else nothing. The header has the level from time 0
-/// on, so `begin` of the writer takes whether a pulse rises at 0. Returns the number of the pulse
-/// that comes next, from 0, which is 0 after the header, also if there is no pulse; `None` if the
-/// text has ended.
+/// Adds the header if that comes next, with the level from time 0 on. Returns the pulse that comes
+/// next, which is 0 after the header.
 fn put_header(
     writer: &mut TextWriter,
     text: &mut Vec<u8>,
@@ -122,10 +110,7 @@ fn put_header(
     }
 }
 
-/// Adds the lines of the pulses from number `first` on, from 0, to `text`, until that has `enough`
-/// bytes. After the last pulse the line of the length is added in any case, since it is short;
-/// `finish` leaves it out if the last edge is at the length. Returns the number of the pulse that
-/// comes next, from 0; `None` after the line of the length.
+/// After the last pulse the line of the length is added in any case, since it is short.
 fn put_lines(
     writer: &mut TextWriter,
     text: &mut Vec<u8>,
@@ -146,8 +131,7 @@ fn put_lines(
     Ok(None)
 }
 
-/// Adds the lines of the pulses from number `first` on, from 0, to `text`, until that has `enough`
-/// bytes. Returns the number of the pulse after them; the count of pulses if none is left.
+/// Returns the number of the pulse after those added.
 fn put_pulses(
     writer: &mut TextWriter,
     text: &mut Vec<u8>,
