@@ -54,7 +54,8 @@ pub fn looks_of(verdict: Verdict) -> u64
     }
 }
 
-/// Each pulse has to be in step (else `Step`) and of a class that may be there (else `Class`).
+/// Each pulse has to be in step (else `Step`) and of a class that may be there (else `Class`); if
+/// the track ends first, it is `Ended`.
 fn check(lens: &mut Lens<'_>, format: Format, at: usize, first: Pulse) -> Verdict
     requires track { IsLongTrack lens.old.track.micros lens.old.track.pulses }
     requires first { slice_get lens.old.track.pulses at ≡ Some first }

@@ -1,5 +1,4 @@
-//! How the times and the rises of two frames go together: `other` is a frame that begins after
-//! `one`.
+//! How the times and the rises of two frames, `one` and then `other`, go together.
 
 ghost use Rattle.std.specs.Prelude.{◌≡◌, ◌^◌, ◌<◌};
 ghost use Rattle.irig_safety.specs.Bearing.{agrees, allows, apart, distance, is_far, is_shown};
@@ -38,17 +37,15 @@ pub fn stray(format: Format, one: &Shown, other: &Shown) -> u128
 }
 
 /// Half an interval, up to which a pulse is nearest to its own place, and a thousandth of the
-/// distance, for a clock that is off: both are this project's own. In units of 1/2000 of a
-/// microsecond.
+/// distance, for a clock that is off. In units of 1/2000 of a microsecond.
 fn slack(format: Format, one: &Shown, other: &Shown) -> u128
     ensures value { result ≡ slack format one.now other.now }
 {
     1_000 * u128::from(format.interval()) + 2 * distance(one, other)
 }
 
-/// Whether two frames may stray by half a period, 50 intervals, or more (`slack`), so their
-/// distance does not say how many periods it is. That is so from 495 periods on: 0.5 + 49,500 /
-/// 1000.
+/// Whether two frames may stray by half a period, 50 intervals, or more (`slack`), so that their
+/// distance does not say how many periods it is. That is so from 495 periods on.
 pub fn is_far(format: Format, one: &Shown, other: &Shown) -> bool
     ensures { result ≡ is_far format one.now other.now }
 {
@@ -73,23 +70,23 @@ pub fn leads(format: Format, one: &Shown, other: &Shown) -> bool
         && 2_000 * stray(format, one, other) <= slack(format, one, other)
 }
 
-/// Whether the times of two frames do not contradict each other: they are far apart, or fit.
+/// Whether the times of two frames do not contradict each other: these are far from each other, or
+/// fit.
 pub fn allows(format: Format, one: &Shown, other: &Shown) -> bool
     ensures { result ≡ allows format one.now other.now }
 {
     is_far(format, one, other) || is_shown(format, one, other)
 }
 
-/// Whether two frames are not far apart, and their distance shows how many periods their times are.
+/// Whether two frames are not far from each other, and their times fit their distance (`is_shown`).
 pub fn agrees(format: Format, one: &Shown, other: &Shown) -> bool
     ensures { result ≡ agrees format one.now other.now }
 {
     !is_far(format, one, other) && is_shown(format, one, other)
 }
 
-/// Whether `from` and `frame`, the ends of a part of a stretch, stray by at most half an interval
-/// more than the whole from `one` to `other`. True if the distance of these does not fit their
-/// times.
+/// Whether `from` and `frame`, a part of a stretch, stray by at most half an interval more than the
+/// whole from `one` to `other`, or the distance of these does not fit their times.
 pub fn is_within(format: Format, one: &Shown, other: &Shown, from: &Shown, frame: &Shown) -> bool
     ensures { result ≡ is_within format one.now other.now from.now frame.now }
 {

@@ -8,7 +8,8 @@ ghost use Rattle.irig_moment.specs.Generated.{period_of};
 use crate::shown::Shown;
 use irig_codes::{Fields, Format};
 
-/// The day and time of day as one number, in hundredths of a second: only good to compare.
+/// In hundredths of a second, from a day before the year begins, as days count from 1. This does
+/// not matter: clocks are only compared.
 pub fn clock(fields: &Fields) -> u128
     ensures value { result ≡ clock_of fields.now }
     ensures small { result < 2 ^ 60 }
@@ -126,9 +127,8 @@ fn goes_back(one: &Fields, other: &Fields) -> bool
         && one.minutes == other.minutes
 }
 
-/// Whether the time of `other` is whole periods later, at least one, and its year can be. False if
-/// it goes back from second 60: the inserted second, or a turn of the year, would make it seem
-/// later.
+/// Whether the time of `other` is whole periods later, at least one. False if it goes back from
+/// second 60: the inserted second, or a turn of the year, would make it seem later.
 pub fn is_later(format: Format, one: &Shown, other: &Shown) -> bool
     ensures { result ≡ is_later format one.now other.now }
 {

@@ -102,7 +102,7 @@ fn rise_at(pulses: &[Pulse], place: usize) -> u64
     }
 }
 
-/// An interval, to a tenth of it, is how far two in step may be apart: this project's own.
+/// Whether `other` is an interval after `one`, to a tenth of it.
 fn is_step(format: Format, one: u64, other: u64) -> bool
     ensures { result ≡ is_step format one other }
 {

@@ -37,7 +37,7 @@ pub fn micros_between(from: u64, to: u64) -> u128
 }
 
 /// Whether a time `micros` after the first anchor is on the straight line, to a tenth of an
-/// interval. Both sides are times all steps. 2^65, as `straightened` can add to a time.
+/// interval. Its bound is 2^65, as `straightened` can add to a time.
 pub fn is_straight(format: Format, before: &Anchor, micros: u128, after: &Anchor) -> bool
     requires { (before.now.steps ≤ 2 ^ 17) × (after.now.steps ≤ 2 ^ 17) × (micros < 2 ^ 65) }
     ensures { result ≡ is_straight format before.now micros after.now }
@@ -48,8 +48,7 @@ pub fn is_straight(format: Format, before: &Anchor, micros: u128, after: &Anchor
     apart(found, wanted) <= whole * tenth(format)
 }
 
-/// On the straight line, or on the curve of a clock that changes evenly, as on a tape that slows
-/// down.
+/// On the straight line, or on the curve of a clock that changes evenly (`is_on_curve`).
 fn is_on_line_between(
     format: Format,
     near: &Witnesses,

@@ -23,8 +23,8 @@ fn is_near_nominal(format: Format, one: &Shown, other: &Shown) -> bool
 }
 
 /// Whether `from` and `to` are at most a hundred times as far apart as `one` and `other`. The rises
-/// of these are off by a tenth of an interval at most, which makes 20 intervals: less than half a
-/// frame.
+/// of these are off by a tenth of an interval each at most: over that distance 20 intervals, which
+/// is less than half a frame.
 fn is_in_reach(format: Format, one: &Shown, other: &Shown, from: &Shown, to: &Shown) -> bool
     ensures { result ≡ is_in_reach format one.now other.now from.now to.now }
 {

@@ -13,8 +13,8 @@ use irig_codes::{Fields, Format};
 /// Its element, from 0, in IEEE 1344 and IEEE C37.118.
 const PARITY: usize = 75;
 
-/// Whether just one control function changed, and by that the parity to that of the frames of
-/// `others`. A function after the parity's element leaves it as it is.
+/// Whether just one control function changed, and by that the parity became that of `others`. A
+/// function after the element of the parity leaves it as it is.
 pub fn is_parity_mended(format: Format, others: &[Shown], former: &Shown, frame: &Shown) -> bool
     ensures { result ≡ is_parity_mended format others.now former.now frame.now }
 {

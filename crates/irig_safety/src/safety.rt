@@ -20,7 +20,7 @@ use crate::witnesses::{Witnesses, is_borne};
 use irig_codes::Format;
 
 /// Whether the frames that read well now (`new`) are safe by those that did at first (`old`) and by
-/// `others`. `Err` is the first fault; `Alone` if none read well at first.
+/// `others`. `Err` is the first fault, which is `Alone` if none read well at first.
 pub fn check_safe(
     format: Format,
     others: &Others,

@@ -33,7 +33,8 @@ fn are_few(format: Format, sides: &Sides) -> bool
         && periods(format, &sides.after, &sides.after2) <= 500
 }
 
-/// The period by the clock of the two before, times `clock_scale`: their own periods cancel.
+/// The period by the clock of the two before, times `clock_scale`, of which their own periods
+/// cancel.
 pub fn period_before(format: Format, sides: &Sides) -> u128
     requires { periods format sides.now.after sides.now.after2 ≤ 500 }
     ensures value { result ≡ period_before format sides.now }

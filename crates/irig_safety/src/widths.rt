@@ -28,8 +28,7 @@ pub fn is_odd(format: Format, pulses: &[Pulse], marker: usize, element: usize) -
     is_outside(format.interval(), spread, width_in(pulses, marker, element))
 }
 
-/// Nearly all pulses are like another one, and not odd: this saves their range. False does not mean
-/// odd.
+/// A pulse that is like another one is not odd. Nearly all are, and this saves their range.
 fn is_like_another(format: Format, pulses: &[Pulse], marker: usize, element: usize) -> bool
     ensures { IsTrue result → is_odd format pulses.now marker element ≡ false }
 {
@@ -71,7 +70,7 @@ fn is_outside(interval: u64, spread: Spread, width: u64) -> bool
 }
 
 /// A hundredth of the interval, and twice what the others differ by: a recorder counts in steps,
-/// and a sender wavers. Both are this project's own.
+/// and a sender wavers.
 fn margin_of(interval: u64, spread: Spread) -> u128
     ensures value { result ≡ margin_of interval spread }
     ensures small { result < 2 ^ 67 }
@@ -146,8 +145,7 @@ fn is_same_class(one: Option<Element>, other: Option<Element>) -> bool
     }
 }
 
-/// In microseconds; 0, which has no class, if there is no pulse. The test subtracts, as the sum
-/// could be too large.
+/// In microseconds; 0, which has no class, if there is no pulse.
 fn width_in(pulses: &[Pulse], marker: usize, element: usize) -> u64
     ensures { result ≡ width_in pulses.now marker element }
 {

@@ -31,8 +31,7 @@ fn is_led(format: Format, before: Option<Shown>, after: Option<Shown>, frame: &S
     }
 }
 
-/// Whether `before` leads to `frame` or `frame` to `after`, and they stray by no more than the
-/// whole.
+/// Whether `before` leads to `frame` or `frame` to `after`, and strays little more than the whole.
 fn is_led_by(format: Format, before: &Shown, after: &Shown, frame: &Shown) -> bool
     ensures { result ≡ is_led format (Some before.now) (Some after.now) frame.now }
 {

@@ -87,7 +87,7 @@ fn day_follows(century: u32, from: &Time, to: &Time) -> bool
     }
 }
 
-/// Only the last two digits of `year` count, so with its century it is 9999 at most: an `i16`.
+/// Only the last two digits of `year` count, so with its century it is 9999 at most.
 fn year_length(century: u32, year: u32) -> u32
     requires { century ≤ 99 }
     ensures { result ≡ days_in_year (pos (100 * century + year % 100)) }

@@ -44,7 +44,7 @@ pub fn is_jump_between(
 
 /// Whether the time does not run on by the count of pulses, and one of two facts shows a jump: all
 /// pulses are in step, so none is lost, or the markers are whole periods apart and the times are
-/// not.
+/// not that many.
 fn is_jump(pulses: &mut Lens<'_>, format: Format, century: u32, from: &Part, to: &Part) -> bool
     requires century { century ≤ 99 }
     requires times { (from.now.time.micros < 2 ^ 59) × (to.now.time.micros < 2 ^ 59) }
@@ -64,7 +64,7 @@ fn is_jump(pulses: &mut Lens<'_>, format: Format, century: u32, from: &Part, to:
     misfits(format, century, &from.time, &to.time, first, last)
 }
 
-/// Whether whole frames of pulses are between the two, and the times are that many periods apart.
+/// Whether whole frames of pulses are between the two, and the times are one period more apart.
 /// False if `missing_in` does not count the frames, as over midnight for three periods or more.
 fn runs_on(format: Format, century: u32, from: &Part, to: &Part) -> bool
     requires century { century ≤ 99 }
@@ -85,7 +85,7 @@ fn runs_on(format: Format, century: u32, from: &Part, to: &Part) -> bool
     missing_in(century, period, count, &from.time, &to.time).is_some()
 }
 
-/// Whether all pulses after the first frame are in step, the marker of the second included.
+/// Whether the step to each pulse after the first frame is regular, up to the marker of the second.
 fn are_joined(pulses: &mut Lens<'_>, format: Format, from: &Part, to: &Part) -> bool
     requires order { from.now.number + from.now.count ≤ to.now.number }
     requires small { to.now.number < 2 ^ 30 }

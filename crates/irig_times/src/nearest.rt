@@ -1,5 +1,4 @@
-//! The five frames that are nearest to one, on one side of it: three can be a shore, two support
-//! it.
+//! The five frames that are nearest to one on one side: three can be a shore, two support it.
 
 ghost use Rattle.std.specs.Prelude.{◌≡◌, List, []};
 ghost use Rattle.irig_safety.specs.declared.shown.Shown.{Shown};

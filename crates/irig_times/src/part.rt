@@ -14,7 +14,7 @@ use irig_codes::Format;
 pub struct Part {
     /// Of its first pulse, from 0.
     pub number: usize,
-    /// Of its first pulse.
+    /// Of that pulse in its frame, from 0.
     pub element: usize,
     pub count: usize,
     /// Of its frame, at the rise of the marker.

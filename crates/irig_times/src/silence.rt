@@ -100,8 +100,7 @@ fn up_to_mark(pulses: &mut Lens<'_>, format: Format, part: &Part) -> Part
     Part { count, ..*part }
 }
 
-/// A part before silence, up to its last position identifier: nothing shows what was lost from
-/// there on.
+/// Up to its last position identifier, as nothing shows what was lost from there on.
 fn before_silence(
     pulses: &mut Lens<'_>,
     format: Format,

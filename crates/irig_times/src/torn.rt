@@ -70,7 +70,7 @@ pub fn tenths_found(pulses: &mut Lens<'_>, from: &Part, to: &Part) -> u64
     tenths_by(both, time) + 990
 }
 
-/// Each from its marker to its last element, so 198 intervals; 0 if one of these is not there.
+/// Each from its marker to its last element: 198 intervals. A frame without one of these counts 0.
 fn length_of_both(pulses: &mut Lens<'_>, from: &Part, to: &Part) -> u64
     requires { (from.now.number < 2 ^ 32) × (to.now.number < 2 ^ 32) }
     ensures time { result ≡ length_of_both pulses.old.track.pulses from.now to.now }
@@ -95,8 +95,7 @@ fn tenths_by(both: u64, time: u64) -> u64
     }
 }
 
-/// The microseconds from pulse `one` to pulse `other`; 0 if one is not there, or `other` is not
-/// later.
+/// From the rise of pulse `one` to that of `other`; 0 if one is not there, or `other` is not later.
 fn micros_between(pulses: &mut Lens<'_>, one: usize, other: usize) -> u64
     ensures time { result ≡ micros_between pulses.old.track.pulses one other }
     ensures low { result ≤ 2 ^ 40 }

@@ -73,9 +73,8 @@ impl Track {
         }
     }
 
-    /// Whether moving the pulses `i` to `j`, both included and from 0, by `by` microseconds leaves
-    /// a track within the limits. Each side of a comparison is a sum, since a difference could go
-    /// below 0.
+    /// Whether moving the pulses `i` to `j`, both included, by `by` microseconds leaves a track
+    /// within the limits. Each side of a comparison is a sum, as a difference could go below 0.
     pub fn can_shift(&self, i: usize, j: usize, by: i64) -> bool
         ensures { IsTrue result ↔ CanShift self.now.micros i j by self.now.pulses }
     {
@@ -138,7 +137,7 @@ impl Track {
             × (result.at + result.new ≡ risen_by b self.new.pulses) }
         ensures spanned { IsSpan result.at result.old result.new self.old.pulses self.new.pulses }
     {
-        // Pulses before `at` fall before `a`, and pulses from `before` on rise after `b`: these
+        // Pulses before `at` fall before `a`, those from `before` on rise after `b`: all these
         // stay.
         let at = self.first_reaching(a);
         let before = self.find(b);

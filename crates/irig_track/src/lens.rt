@@ -93,7 +93,8 @@ impl<'a> Lens<'a> {
         self.pulses.get(index)
     }
 
-    /// By halves. Inlined, so that `Track::find`, whose looks nobody reads, does not count them.
+    /// How many pulses rise by `time`, in microseconds. Inlined, so that `Track::find`, whose looks
+    /// nobody reads, does not count them.
     #[inline(always)]
     pub fn find(&mut self, time: u64) -> usize
         ensures count { result ≡ risen_by time self.old.track.pulses }

@@ -116,7 +116,7 @@ impl Track {
         self.pulses.len()
     }
 
-    /// How long the track is, in microseconds.
+    /// In microseconds.
     pub fn length(&self) -> u64
         ensures length { result ≡ self.now.micros }
         ensures track { IsTrack self.now.micros self.now.pulses }
@@ -152,7 +152,7 @@ impl Track {
         self.lens().find(time)
     }
 
-    /// Of the pulses that have risen by `time`, in microseconds, only the last can fall later.
+    /// How many pulses fall before `time`: all that have risen by then, but perhaps the last.
     pub(crate) fn first_reaching(&self, time: u64) -> usize
         ensures { result ≡ ended_before time self.now.pulses }
     {
