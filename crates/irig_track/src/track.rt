@@ -37,8 +37,8 @@ impl Model for Track {
 
 impl Track {
     /// The track with the recording's length and edges, in the recording's block of memory.
-    /// `bounded`, for n pulses: a block grows only from a capacity below n + 1024, by half of it at
-    /// most or to room for 1024 more, so at most n / 2 + 1536 are spare.
+    /// `bounded`, for n pulses: a block has room for at most n + 1024 more; one that grows, by half
+    /// from below n + 1024 or to room for 1024, has at most n / 2 + 1536.
     pub fn new(recording: Recording) -> Result<Track, AllocError>
         ensures length { IfOk result (λ t. t.micros ≡ recording.micros) }
         ensures edges { IfOk result (λ t. edges_of t.pulses ≡ recording.edges) }
