@@ -1,14 +1,4 @@
-//! How single changes turn, in the track and in the marks alone. To turn a change is to make it and
-//! to leave the change that leads back instead of it.
-//!
-//! A toggle inverts the level between two times, and a shift moves pulses, with marks among them. A
-//! mark is a time that has one of the letters a to z as its name. Times are in microseconds. A
-//! `Span` says which pulses a turn touched: from pulse `at` on, from 0, `old` pulses became `new`.
-//! In a contract `micros` is the length of the track, and `spare` how many places it has free.
-//! `IsSpan` says that all pulses outside of a span are as before. `IsMark`: a mark is not set, or
-//! is within the length.
-//!
-//! What is marked "Read for .." does nothing: it only lets the proof use what a type promises.
+//! How single changes turn, in the track and in the marks alone.
 
 ghost use Rattle.std.specs.Prelude.{◌≡◌, ◌≤◌, ◌<◌, ◌+◌, ◌-◌, neg_ℤ, length, get_or, slice_set};
 ghost use Rattle.std.specs.Prelude.{None, IsTrue};
@@ -25,13 +15,9 @@ use irig_codes::{Format, Kind};
 use irig_saved::{Letters, Marks};
 use irig_track::{Span, Track};
 
-/// Turns a toggle: inverts the level from time `a` to time `b`. Returns which pulses it touched:
-/// those that rise at or before `b` and fall at or after `a`, before the turn and after it
-/// (`standing_in` counts such pulses). The same toggle leads back, so no other change has to be
-/// left. The caller has tested that the toggle can be made, and made room for one pulse more. `few`
-/// bounds how many pulses touch the stretch from `a` to `b` afterwards, so how many looks the index
-/// needs. They are at most one more than the whole track had. Of them at most one rose before `a`,
-/// and at most one is new; all others rose after `a` up to `b` before the turn, too.
+/// Inverts the level from time `a` to time `b`, as `can_toggle` allows; the same toggle leads back.
+/// The track has one free place. Of the pulses that touch the stretch afterwards at most one rose
+/// before `a`, and at most one is new (`few`), which bounds the looks.
 pub(crate) fn turn_toggle(track: &mut Track, a: u64, b: u64) -> Span
     requires can { CanToggle track.old.micros a b track.old.pulses }
     requires spare { 0 < track.old.spare }
@@ -44,19 +30,15 @@ pub(crate) fn turn_toggle(track: &mut Track, a: u64, b: u64) -> Span
         × (result.new ≤ risen_by b track.old.pulses - risen_by a track.old.pulses + 2) }
     ensures spanned { IsSpan result.at result.old result.new track.old.pulses track.new.pulses }
 {
-    // Read for the law of its type alone.
     let _before = track.len();
     let span = track.toggle(a, b);
-    // Read for the law of its type alone.
     let _after = track.len();
     span
 }
 
-/// Turns a shift of the pulses `i` to `j`, both included and from 0. They move by `by`, below 0 to
-/// earlier times. The marks of the letters that are true in `letters` move with them, if they are
-/// set. `by` becomes its opposite, which leads back. Returns which pulses it touched: those that
-/// moved. The caller has tested that the shift can be made: so `by` is no longer than the track,
-/// and its opposite does not overflow.
+/// Moves the pulses `i` to `j`, both included and from 0, with the marks of the letters that are
+/// true in `letters`. As the shift can be made, `by` is no longer than the track, and `-by` does
+/// not overflow.
 pub(crate) fn turn_shift(
     track: &mut Track,
     marks: &mut Marks,
@@ -77,7 +59,6 @@ pub(crate) fn turn_shift(
     ensures spanned { IsSpan result.at result.old result.new track.old.pulses track.new.pulses }
 {
     let distance = *by;
-    // Read for the law of its type alone.
     let _len = track.len();
     move_marks(marks, letters, distance);
     let span = track.shift(i, j, distance);
@@ -85,9 +66,7 @@ pub(crate) fn turn_shift(
     span
 }
 
-/// Turns the setting of a mark: sets the mark of a letter to `time`. Afterwards `time` is the
-/// former mark, which leads back. `None` is a mark that is not set. `letter` is a number from 0 (a)
-/// to 25.
+/// Swaps the mark of a letter, 0 (a) to 25, with `time`, which is then the former mark.
 pub(crate) fn turn_mark(marks: &mut Marks, letter: usize, time: &mut Option<u64>)
     requires { letter < 26 }
     ensures marks { marks.new ≡ slice_set marks.old letter time.old }

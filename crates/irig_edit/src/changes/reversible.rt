@@ -1,11 +1,4 @@
-//! Changes of the present state, turned in place. A `Turn` is a change with places for the pulses
-//! that go. A state is lawful if track and marks keep their limits and the index has the frames.
-//!
-//! These are the calls that a journal needs of a state; the trait `Reversible` has their contracts.
-//! To turn a change is to make it and to leave the change that leads back in it. A splice is the
-//! change that replaces pulses by others.
-//!
-//! What is marked "Read for .." does nothing: it only lets the proof use what a type promises.
+//! Changes of the present state, turned in place, as the trait `Reversible` asks.
 
 ghost use Rattle.std.specs.Prelude.{ℕ};
 ghost use Rattle.irig_edit.specs.Changes.Delta.{Fits, gathered, turned, weight_of};
@@ -63,34 +56,23 @@ impl Reversible for Present {
 
     ghost gathered = { gathered };
 
-    // Does nothing as it runs. Its contract lets the proofs of callers use that the state is
-    // lawful.
+    // For the proof alone: the state is lawful.
     fn known(&self) {
-        // Read for the law of its type alone.
         let _track = self.track();
     }
 
-    // Whether the single change of the turn can be made to the state as it is. (A group is several
-    // turns, each asked for on its own.) The state stays.
     fn applies(&self, turn: &Turn) -> bool {
         self.allows(&turn.single)
     }
 
-    // Makes the room that the turn and its turn back take. State and change stay what they are. The
-    // change must be one that can be made. It fails only if memory runs out; places that were made
-    // until then stay.
     fn prepare(&mut self, turn: &mut Turn) -> Result<(), AllocError> {
         self.room_for(turn)
     }
 
-    // Makes the change to the state, and leaves the change that leads back in `turn`. The change
-    // can be made and `prepare` has made room for it, so this takes no memory and cannot fail.
     fn turn(&mut self, turn: &mut Turn) {
         self.make_turn(turn);
     }
 
-    // How many pulses the change holds in memory: those that a splice inserts. Other changes hold
-    // none.
     fn weight(turn: &Turn) -> u64 {
         turn.held() as u64
     }

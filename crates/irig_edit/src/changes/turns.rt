@@ -1,17 +1,4 @@
-//! Single changes turned in place, with the frames repaired at their places.
-//!
-//! To turn a change is to make it and to leave the change that leads back in it. Before each call
-//! the change was found possible, and room was made for it (`room`), so nothing fails here. A
-//! splice replaces pulses by others, a toggle inverts the level between two times, and a shift
-//! moves pulses. The index holds the frames of the track; a span says which pulses a turn touched,
-//! and `repair` reads the frames again that these may have changed. A look is one read of a pulse
-//! for this; the clauses `looks` bound their number by the pulses that a turn touched. The places
-//! of a state (`places_in`) are how many pulses and frames it has room for: `HoldsState` says that
-//! pulses and frames of a state fit in, `KeepsPlaces` that there are as many places as before.
-//! `turned_single` is the state after a change, with the change that leads back. Times are in
-//! microseconds. A change counts pulses from 1, a track from 0.
-//!
-//! What is marked "Read for .." does nothing: it only lets the proof use what a type promises.
+//! Single changes turned in place, with the frames repaired at their places; nothing fails here.
 
 ghost use Rattle.std.specs.Prelude.{◌≡◌, ◌≤◌, ◌<◌, [], IsTrue, neg_ℤ, length};
 ghost use Rattle.irig_codes.specs.Format.{is_permitted};
@@ -35,10 +22,8 @@ use irig_gap::Gap;
 use irig_saved::{Letters, Pulses, Single};
 use irig_track::Pulse;
 
-/// The turns that move pulses or frames.
 impl Present {
-    /// Turns the single change of `turn`: makes it and repairs the frames. It leaves the change
-    /// that leads back in `turn`, with room for its own turn. This takes no memory.
+    /// Turns the change of `turn` and repairs the frames. This takes no memory.
     pub(crate) fn make_turn(&mut self, turn: &mut Turn)
         requires fits { FitsSingle self.old.state (single_of turn.old) }
         requires room { HasRoomFor (places_in self.old) self.old.state turn.old }
@@ -50,19 +35,12 @@ impl Present {
         ensures places { KeepsPlaces self.old self.new }
         ensures back { HasRoomFor (places_in self.new) self.new.state turn.new }
     {
-        // Read for the law of its type alone.
         let _track = self.track();
         self.turn_single(&mut turn.single, &mut turn.taken);
     }
 
-    /// Turns a single change, and leaves the change that leads back in `single`. Each kind has its
-    /// function: `splice`, `toggle`, `turn_shift`, `set_format` and, for a mark, `turn_mark`.
-    /// `taken` is empty, with places for the pulses that a splice removes; afterwards it is empty
-    /// again, with places for those that the way back removes. `passing` is how many free places
-    /// the track needs while the change is made: 1 for a toggle, else 0. `before` and `after` ask
-    /// for room for the state as it is and as it will be. A change that was found possible names no
-    /// pulse 0, so `at - 1` does not wrap. A mark has nothing to do with frames, so they need no
-    /// repair after `turn_mark`.
+    /// Turns a single change. `taken` has places for the pulses that go, and afterwards for those
+    /// that came. A change that was found possible names no pulse 0, so `at - 1` does not wrap.
     fn turn_single(&mut self, single: &mut Single, taken: &mut Gap<Pulse>)
         requires fits { FitsSingle self.old.state single.old }
         requires empty { taken.old.items ≡ [] }
@@ -91,10 +69,8 @@ impl Present {
         }
     }
 
-    /// Turns a splice: replaces `count` pulses from `at` on, from 0, by those of `put`. Afterwards
-    /// `put` holds the pulses that went and `count` says how many came: the splice of these leads
-    /// back. `taken` is empty, with places for the pulses that go; afterwards it is empty again,
-    /// with places for those that came: `exchange` swaps it with the buffer of `put`.
+    /// Replaces `count` pulses from `at` on, from 0, by those of `put`; `exchange` swaps `taken`
+    /// with the buffer of `put`.
     fn splice(&mut self, at: usize, count: &mut u64, put: &mut Pulses, taken: &mut Gap<Pulse>)
         requires can { CanSplice self.old.state.micros at count.old put.old
             self.old.state.pulses }
@@ -118,8 +94,7 @@ impl Present {
         self.index.repair(&mut self.track.lens(), self.format, span);
     }
 
-    /// Turns a toggle: inverts the level from time `a` to time `b`; the same toggle leads back.
-    /// While it is made there can be one pulse more than before and afterwards, so the track must
+    /// Inverts the level from `a` to `b`. On the way there can be one pulse more, so the track must
     /// have a free place: the 1 in the clauses.
     fn toggle(&mut self, a: u64, b: u64)
         requires can { CanToggle self.old.state.micros a b self.old.state.pulses }
@@ -136,9 +111,7 @@ impl Present {
         self.index.repair(&mut self.track.lens(), self.format, span);
     }
 
-    /// Turns a shift. The caller has seen that `single` is a shift, so no other kind comes; `shift`
-    /// does the work. The distance in `single` becomes its opposite, which leads back. It is set
-    /// only after the pulses have moved: until then `marks` in `single` is borrowed.
+    /// Turns a shift. `by` is set only after the pulses have moved: until then `marks` is borrowed.
     fn turn_shift(&mut self, single: &mut Single)
         requires shift { IsShift single.old }
         requires fits { FitsSingle self.old.state single.old }
@@ -161,8 +134,8 @@ impl Present {
         }
     }
 
-    /// Moves the pulses `i` to `j`, both included and from 0, by `by` microseconds, with the marks
-    /// of the letters that are true in `letters`. Returns the distance of the way back, `-by`.
+    /// Moves the pulses `i` to `j`, both included and from 0, with the marks of `letters`. Returns
+    /// the distance of the way back.
     fn shift(&mut self, i: usize, j: usize, by: i64, letters: &Letters) -> i64
         requires can { CanShift self.old.state.micros i j by self.old.state.pulses }
         requires marks { AllMayMove self.old.state.micros by letters.now self.old.state.marks }
@@ -177,7 +150,6 @@ impl Present {
             self.new.index.looks }
         ensures places { KeepsPlaces self.old self.new }
     {
-        // Read for the law of its type alone.
         let _length = self.track.length();
         let mut back = by;
         let span = turn_shift(&mut self.track, &mut self.marks, i, j, &mut back, letters);
@@ -185,9 +157,8 @@ impl Present {
         back
     }
 
-    /// Turns the setting of a format: a kind of time code and the number of its coded expression,
-    /// which the kind permits. Afterwards `kind` and `expression` are those of the former format,
-    /// which leads back. All frames are read again in the new format, so the looks have no bound.
+    /// Sets a format; `kind` and `expression` are then those of the former one. All frames are read
+    /// again, so the looks have no bound.
     fn set_format(&mut self, kind: &mut Kind, expression: &mut u8)
         requires permitted { IsTrue (is_permitted kind.old expression.old) }
         requires holds { HoldsState (places_in self.old) 0 (state self.old.state.micros

@@ -1,7 +1,4 @@
-//! The pulses of frames that are generated.
-//!
-//! Times are in microseconds. A frame is 100 pulses, one for each element. They rise one interval
-//! of the format after another. A moment is a date and a time of day.
+//! The pulses of frames that are generated: 100 a frame, one for each element.
 
 ghost use Rattle.std.specs.Prelude.{◌≡◌, ◌+◌, ◌*◌, ◌^◌, ◌<◌, ◌≤◌, ◌++◌, length, IsTrue, IfOk};
 ghost use Rattle.irig_codes.specs.Format.{control_count_of, interval_of};
@@ -17,9 +14,7 @@ use irig_saved::Pulses;
 use irig_track::Pulse;
 use std::alloc::{AllocError, Global};
 
-/// How long this many frames of a format are together, in microseconds: 100 intervals each. There
-/// are at most 10,000 of them, the limit of `regen`. An interval has at most 100,000 microseconds,
-/// so the answer is at most 10^11 (`short`).
+/// How long this many frames are together, in microseconds. An interval has at most 100,000.
 pub(crate) fn span(format: Format, frames: u64) -> u64
     requires { frames ≤ 10000 }
     ensures value { result ≡ 100 * frames * interval_of format.kind }
@@ -28,15 +23,8 @@ pub(crate) fn span(format: Format, frames: u64) -> u64
     100 * frames * format.interval()
 }
 
-/// The pulses of `frames` frames, one after the other, from `start` on. The caller has tested what
-/// the contract asks for. There are at most 10,000 frames, and they end within 2^40 microseconds,
-/// the longest track. A frame can begin at the moment. The format has an element for each bit of
-/// `control`.
-///
-/// The first frame carries the moment, each later one a frame period more than the one before it.
-/// All carry the control functions `control`, whose lowest bit is the first control element.
-/// `fields` gives the fields of frame `k`, and `encode` its 100 elements. It fails only if memory
-/// runs out.
+/// The pulses of `frames` frames from `start` on. The first carries the moment, each later one a
+/// frame period more. All carry `control`, whose lowest bit is the first control element.
 pub(crate) fn pulses_of(
     alloc: Global,
     format: Format,
@@ -60,11 +48,8 @@ pub(crate) fn pulses_of(
     Ok(Pulses::of(pulses))
 }
 
-/// Adds the 100 pulses of frame `k`, from 0, after those of `pulses`. Frame 0 begins at `start`, in
-/// microseconds, so pulse `element` of frame `k` rises `100 * k + element` intervals later; its
-/// width is the nominal one of its element. The buffer has room for them, and its place is at the
-/// end, so `put` adds there. `few` and `within` are limits of the caller: with them no sum is too
-/// large for its type.
+/// Adds the 100 pulses of frame `k`, from 0. With the limits `few` and `within` no sum is too
+/// large.
 fn put_frame(pulses: &mut Gap<Pulse>, format: Format, start: u64, k: u64, elements: &[Element; 100])
     requires last { pulses.old.place ≡ length pulses.old.items }
     requires room { length pulses.old.items + 100 ≤ pulses.old.capacity }

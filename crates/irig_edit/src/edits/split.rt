@@ -1,15 +1,4 @@
 //! Splits a pulse in two.
-//!
-//! Pulses count from 1, and times are in microseconds. `plan` judges the edit and changes nothing.
-//! Its refusals: E1 is `OutOfRange`, E2 `NoPulse`, E4 `NotInside`, E5 `TooMany`. If memory runs
-//! out, E11, nothing changes either. If `plan` refuses nothing, `splice` replaces `count` pulses
-//! from `first` on by the list `put`, as a step that leaves the cursor at `cursor`; these are its
-//! arguments, in this order. A step is what one undo reverses; the cursor is the number of a pulse,
-//! or 0 before the first.
-//!
-//! In a contract `judgement_of` is the first refusal of the edit, if it has one. `Plans` says that
-//! it has none, and what `splice` gets then. `Steps` says that the call makes the edit or is
-//! refused; `LooksAfter` bounds how often it reads a pulse to keep the frames true.
 
 ghost use Rattle.std.specs.Prelude.{◌≡◌, ◌+◌, [], ◌∷◌, Some, MatchResult};
 ghost use Rattle.irig_track.specs.Edges.{pulse};
@@ -23,10 +12,7 @@ use crate::session::session::Session;
 use crate::state::present::Present;
 use irig_track::Pulse;
 
-/// Pulse `i` as it is, if it can be made low from time `a` to time `b`; else a refusal.
-/// `OutOfRange` unless `a < b` and `b` is within the length; `NoPulse` unless pulse `i` is there;
-/// `NotInside` unless both times lie inside of it, not at its edges; `TooMany` if `room`, how many
-/// more pulses the limit of 2^22 permits, is 0. The first that holds in this order is the answer.
+/// Pulse `i` as it is, if it can be made low from `a` to `b`.
 fn plan(present: &Present, i: usize, a: u64, b: u64) -> Result<Pulse, Refusal>
     ensures { MatchResult result
         (λ p. Plans (Split i a b) present.now.state i 1
@@ -51,11 +37,8 @@ fn plan(present: &Present, i: usize, a: u64, b: u64) -> Result<Pulse, Refusal>
 }
 
 impl Session {
-    /// Makes the level low from time `a` to time `b`, in microseconds, inside of pulse `i`, which
-    /// counts from 1. So the pulse becomes two, and the cursor goes to the second of them.
-    ///
-    /// E1 unless `a < b` and `b` is within the length; E2 unless the pulse is there; E4 unless both
-    /// times lie inside of it, not at its edges; E5 if there are 2^22 pulses.
+    /// Makes the level low from `a` to `b` inside of pulse `i`, not at its edges. The cursor goes
+    /// to the second of the two pulses. E1, E2, E4, E5.
     pub fn split(&mut self, i: usize, a: u64, b: u64) -> Result<(), Refusal>
         ensures step { Steps (Make (Split i a b)) self.old result self.new }
         ensures looks { LooksAfter (Make (Split i a b)) self.old result self.new }

@@ -1,13 +1,4 @@
-//! What a saved journal says before its steps: format, cursor and marks. A journal is the history
-//! of a session, saved in a dump.
-//!
-//! The text of a journal: line 1 names it, line 2 is the format, line 3 the cursor, and from line 4
-//! on each mark that is set has a line. Then comes the line that counts the steps back. Marks are
-//! times in microseconds. In a contract `head_fault` and `mark_beyond` are the first line at fault
-//! before the steps, if there is one; `IsBad` is `BadJournal` with such a line, or `OutOfMemory`.
-//! `mark_lines 97` are the lines of all marks that are set: 97 is the letter a.
-//!
-//! Where `match` hands an error on, `?` would do the same; the proof of it takes longer.
+//! What a saved journal says before its steps: format, cursor and marks.
 
 ghost use Rattle.std.specs.Prelude.{◌≡◌, ◌+◌, ◌≤◌, Err, IfOk, IfErr, MatchResult, None, Some, []};
 ghost use Rattle.std.specs.Prelude.{length};
@@ -25,11 +16,8 @@ use irig_saved::{Marks, Saved};
 use irig_vcd::VcdFault;
 use std::alloc::Global;
 
-/// The state of a recording with the format, cursor and marks of a journal, as a `Walk`: a state
-/// with its cursor and its steps, of which it has none yet. With it comes the number, from 1, of
-/// the journal's line after its marks. `BadJournal`, with the number of the first line at fault, if
-/// the format is not permitted, or if the cursor or a mark is beyond the recording (`head_of`). All
-/// this is judged before memory is taken; after that the only error is `OutOfMemory`.
+/// The state that the journal's head gives, without steps, and the number, from 1, of the line
+/// after the marks. `BadJournal` is judged before memory is taken.
 pub(crate) fn start(
     alloc: Global,
     recording: Recording,
@@ -58,10 +46,8 @@ pub(crate) fn start(
     }
 }
 
-/// Judges the lines of a journal before its steps. Returns its format, and the number of the line
-/// after its marks, from 1. The format has to be permitted, the cursor at most the number of pulses
-/// and no mark beyond the length. Else the error is the number of the first line at fault, from 1.
-/// It is 2 for the format, 3 for the cursor, and 4 or above for a mark (`line_behind`).
+/// The format of a journal, and the number of the line after its marks; the error is the first line
+/// at fault, from 1: 2 is the format, 3 the cursor, 4 and above are marks.
 fn head_of(recording: &Recording, saved: &Saved) -> Result<(Format, usize), usize>
     ensures { MatchResult result
         (λ head. (head_fault (state_of recording.now saved.now) saved.now ≡ None)
@@ -82,7 +68,6 @@ fn head_of(recording: &Recording, saved: &Saved) -> Result<(Format, usize), usiz
     }
 }
 
-/// How many pulses a recording has.
 fn pulse_count(recording: &Recording) -> usize
     ensures { result ≡ length (pulses_of recording.now.edges) }
 {
@@ -90,8 +75,7 @@ fn pulse_count(recording: &Recording) -> usize
 }
 
 impl Present {
-    /// Replaces all marks by these; each is `None` or a time within the length, which the caller
-    /// has tested.
+    /// Replaces all marks by these, which are within the length.
     fn put_marks(&mut self, marks: &Marks)
         requires { mark_beyond self.old.state.micros 4 marks.now ≡ None }
         ensures { self.new.state
@@ -101,10 +85,7 @@ impl Present {
     }
 }
 
-/// The number, from 1, of the line that comes after the lines of the marks. The marks have one line
-/// each from line 4 on, but a mark that is not set has none; without marks the answer is 4. If a
-/// mark is beyond the length `micros`, in microseconds, the error is the number of its line: the
-/// first such line if there are several.
+/// The number of the line after the marks, which begin at line 4; a mark that is not set has none.
 fn line_behind(marks: &Marks, micros: u64) -> Result<usize, usize>
     ensures { MatchResult result
         (λ line. (mark_beyond micros 4 marks.now ≡ None)

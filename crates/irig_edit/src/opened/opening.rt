@@ -1,20 +1,4 @@
 //! A session is opened from a dump, with the journal that it carries.
-//!
-//! A journal is the history of a session, saved as text (`Saved` once it is read): a format, a
-//! cursor, marks, and the steps back and forward. V13 is `VcdFault::BadJournal`, with the number of
-//! the journal's line at fault, from 1. `OutOfMemory` says that memory ran out. `wire` is the name
-//! of the dump's wire to read; if none is given, the dump has to have one wire of one bit. A dump
-//! and the text of a journal have at most 2^28 bytes here, and so at most that many lines.
-//!
-//! In a contract `IsOpened` says that the session is the right one, and `IsUnopened` that the error
-//! is that of the dump, or else of its journal. `heading`: a fault of the dump's declarations is
-//! answered before all others. `closed`: no group is open in the session. `IsBad P` is V13 at a
-//! line that `P` holds of, or `OutOfMemory`. The clauses `memory` say when memory can run out:
-//! `ReachesSteps` if the text begins a journal that has a step; `HasHead` if format, cursor and
-//! marks of the journal are right, or there is no journal; `MayBeShort` if the dump has no fault
-//! and one of these two holds.
-//!
-//! Where `match` hands an error on, `?` would do the same; the proof of it takes longer.
 
 ghost use Rattle.std.specs.Prelude.{◌≡◌, ◌≤◌, ◌^◌, ◌⊎◌, ℕ, List, Option, Ok, Err, IfOk, IfErr};
 ghost use Rattle.std.specs.Prelude.{IfSome, None, length};
@@ -38,15 +22,10 @@ use irig_vcd::{VcdFault, read_parts};
 use std::alloc::Global;
 
 impl Session {
-    /// The session of a dump's wire. A dump without a journal opens in `format`, with the cursor at
-    /// the last pulse, no mark and no step. If it has a journal, format, marks, cursor, past and
-    /// future are those of the journal, and `format` is not used. The bytes are dropped before the
-    /// session takes its memory.
-    ///
-    /// An error is a fault of the dump, or V13 with the number of the journal's line at fault, from
-    /// 1. `parts_of` judges the dump and the form of the journal's lines, `session_with` what these
-    /// say. `OutOfMemory` comes only if the wire has an edge before the first fault of the dump, or
-    /// if the dump has no fault: then for the steps of its journal or for the session.
+    /// The session of a dump's wire; without a name the dump has to have one wire of one bit.
+    /// `format` is only for a dump without a journal. The bytes are dropped before the session
+    /// takes its memory, which can run out only if the wire has an edge before the dump's first
+    /// fault, or if the dump has no fault.
     pub fn open_dump(
         alloc: Global,
         bytes: Vec<u8>,
@@ -71,15 +50,9 @@ impl Session {
     }
 
     /// The session of a recording and the text of its journal, as `irig_vcd` reads both from a
-    /// dump. Without a journal it opens in `format`, with the cursor at the last pulse, no mark and
-    /// no step. If there is one, format, marks, cursor, past and future are those of the journal.
-    /// The text is dropped before the session takes its memory.
-    ///
-    /// The error is V13 with the number of the journal's line at fault, from 1, or `OutOfMemory`.
-    /// Without a journal only the second can come. With a journal memory can run out while the
-    /// lines of its steps are read. After that it can run out only if the form of all lines, the
-    /// format, the cursor and the marks were found right. The contract is about every dump, `bytes`
-    /// with a `wire`, that has this recording and this journal.
+    /// dump; the text is dropped before the session takes its memory. With a journal memory can run
+    /// out while the lines of its steps are read, and after that only if format, cursor and marks
+    /// are right.
     pub fn open_parts(
         alloc: Global,
         recording: Recording,
@@ -104,10 +77,7 @@ impl Session {
     }
 }
 
-/// Reads a dump: the recording of its wire, and the journal that it carries, `None` if it has none.
-/// The dump is judged, and the form of the journal's lines, but none of its steps is tried. The
-/// error is a fault of the dump, V13, or `OutOfMemory`. The text of the journal is a part of
-/// `bytes`, which are dropped at the end.
+/// Reads a dump and the form of its journal's lines; none of the steps is tried.
 fn parts_of(
     alloc: Global,
     bytes: Vec<u8>,
@@ -135,9 +105,7 @@ fn parts_of(
     }
 }
 
-/// Reads the text of a journal. V13 with the number of the first line at fault if the text does not
-/// have the form of a journal, `OutOfMemory` if memory runs out; the steps are not tried. A `Fault`
-/// of `parse` says one of these two in its own type.
+/// The journal that a text has; none of its steps is tried.
 fn journal_of(alloc: Global, text: &[u8]) -> Result<Saved, VcdFault>
     requires short { length text.now ≤ 2 ^ 28 }
     ensures saved { IfOk result (IsTextOf text.now) }
@@ -152,9 +120,6 @@ fn journal_of(alloc: Global, text: &[u8]) -> Result<Saved, VcdFault>
     }
 }
 
-/// Reads the text of a journal; `Ok(None)` if there is no text. V13 with the number of the first
-/// line at fault if the text does not have the form of a journal, `OutOfMemory` if memory runs out;
-/// the steps are not tried. The text is dropped at the end.
 fn saved_of(alloc: Global, text: Option<Vec<u8>>) -> Result<Option<Saved>, VcdFault>
     requires short { IfSome text (λ text. length text.items ≤ 2 ^ 28) }
     ensures saved { IfOk result (IsJournalOf (bytes_of text)) }
@@ -171,10 +136,7 @@ fn saved_of(alloc: Global, text: Option<Vec<u8>>) -> Result<Option<Saved>, VcdFa
     }
 }
 
-/// The session of a recording with its journal, if there is one: then the format is the journal's,
-/// and `format` is not used. With a journal the error is V13 if it does not fit the recording, or
-/// `OutOfMemory` (`session_of`). Without a journal it is a session in `format`, with no steps; then
-/// the only error is `OutOfMemory`.
+/// The session of a recording, with its journal if there is one: then `format` is not used.
 fn session_with(
     alloc: Global,
     recording: Recording,
@@ -195,10 +157,7 @@ fn session_with(
     }
 }
 
-/// The session of a recording with a journal. V13 if the journal's format, cursor or marks do not
-/// fit the recording, or one of its steps cannot be made; `OutOfMemory` if memory runs out. `start`
-/// judges the lines before the steps, and gives the state as a `Walk`, whose `open` takes the
-/// steps; `line` is the number of the first line that `start` has not judged.
+/// The session of a recording with a journal; `line` is the first line that `start` has not judged.
 fn session_of(alloc: Global, recording: Recording, saved: Saved) -> Result<Session, VcdFault>
     requires short { length (saved_lines saved) ≤ 2 ^ 28 }
     ensures opened { IfOk result (IsAccepted (state_of recording saved) saved) }

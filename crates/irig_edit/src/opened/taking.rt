@@ -1,15 +1,4 @@
-//! The steps of a saved journal, taken one after another.
-//!
-//! A step is a change and the cursor that it leads to. The steps of a journal are tried on the
-//! state that was read: steps back lead to former states, steps forward to states that were undone.
-//! To take a step is to make its change as an edit, if it is possible. After all are taken they are
-//! undone again, so that they lie ahead, to be redone. V13 is `VcdFault::BadJournal`. A `Walk` is a
-//! state with its cursor and steps. After an error nothing is said of what is left in it.
-//!
-//! `CanTakeAll`: all these steps can be taken. `CanBegin`: there is a step, and its first change is
-//! possible. `IsBad P`: V13 at a line that `P` holds of, or `OutOfMemory`. With the bounds `lines`,
-//! `line` and `short` each number of a line fits its type. Where `match` hands an error on, `?`
-//! would do the same; the proof of it takes longer.
+//! The steps of a saved journal, tried one after another on the state that was read.
 
 ghost use Rattle.std.specs.Prelude.{◌≡◌, ◌+◌, ◌≤◌, ◌<◌, ◌^◌, ◌++◌, List, [], Err, IfErr, IfOk};
 ghost use Rattle.std.specs.Prelude.{MatchBool, MatchResult, None, OnOk, length, reverse};
@@ -35,19 +24,16 @@ use irig_saved::{Change, Saved, SavedStep, Single, Steps};
 use irig_vcd::VcdFault;
 use std::alloc::{AllocError, Global};
 
-/// Why steps were not all taken. Lines are counted in the order in which the steps are taken.
+/// Why steps were not all taken.
 #[derive(Drop)]
 pub(crate) enum NotTaken {
-    /// A step cannot be taken: the steps taken before this one have `before` lines, and with the
-    /// lines of this one they are `behind`.
+    /// The steps before this one have `before` lines, and with its own lines they are `behind`.
     At { before: usize, behind: usize },
-    /// Memory ran out.
     Memory,
 }
 
 impl Walk {
-    /// Takes steps, the last of the list first, and undoes them again: the state is as before, and
-    /// the steps are ahead. Before the call no step may be ahead. An error is that of `take_all`.
+    /// Takes steps, the last of the list first, and undoes them again, so that they are ahead.
     fn follow(&mut self, alloc: Global, steps: Steps) -> Result<(), NotTaken>
         requires ahead { self.old.future ≡ [] }
         requires lines { length (steps_lines (reverse steps)) < 2 ^ 63 }
@@ -56,7 +42,6 @@ impl Walk {
             × (self.new ≡ ahead_of self.old (steps_of (reverse steps))))
             (λ why. IsNotTaken self.old.state (reverse steps) why) }
     {
-        // Read for the proof alone, which can then use what the type of `self` promises.
         let _len = self.len();
         let count = steps.len();
         self.take_all(alloc, steps)?;
@@ -64,9 +49,8 @@ impl Walk {
         Ok(())
     }
 
-    /// Takes the steps of a journal, first those back, and makes the session. `start` (in `head`)
-    /// made `self`. `line`, from 1, is the line after the journal's marks, which counts the steps
-    /// back. V13 has the line of the step that cannot be taken; else the error is `OutOfMemory`.
+    /// Takes the steps of a journal and makes the session. `line` is the number, from 1, of the
+    /// line that counts the steps back.
     pub(crate) fn open(
         mut self,
         alloc: Global,
@@ -84,7 +68,7 @@ impl Walk {
             → CanBegin self.state (steps_of (reverse saved.past ++ saved.future)) }
     {
         let Saved { past, future, .. } = saved;
-        // Now `line` is the line after the steps back, which counts the steps forward.
+        // Now it is the number of the line that counts the steps forward.
         let line = line + past.lines() + 1;
         match self.follow_both(alloc, past, future, line) {
             Ok(()) => Ok(self.into_session(alloc)),
@@ -92,12 +76,9 @@ impl Walk {
         }
     }
 
-    /// Takes the steps back of a journal and undoes them. Then it swaps past and future, so these
-    /// steps are the past. Last it takes the steps forward and undoes them, too: they are ahead, to
-    /// be redone. `line` is the number, from 1, of the line that counts the steps forward. An error
-    /// is V13 with the first line of the step that cannot be taken, or `OutOfMemory`. The newest
-    /// step back is just above `line`: so a step back begins `behind` lines above it (they are
-    /// there, so nothing saturates), and a step forward begins `before` lines after `line + 1`.
+    /// Takes the steps back, undoes them and swaps past and future; then the steps forward are
+    /// taken and undone. The line number `line`, from 1, is that of the count of the steps forward,
+    /// and the newest step back is just above it.
     fn follow_both(
         &mut self,
         alloc: Global,
@@ -131,9 +112,7 @@ impl Walk {
         }
     }
 
-    /// Takes steps, the last of the list first; they are in the past then. If one cannot be taken,
-    /// `NotTaken::At` counts the lines of the steps that were taken before it (`before`), and these
-    /// with its own lines added (`behind`). `NotTaken::Memory` says that memory ran out.
+    /// Takes steps, the last of the list first; they are in the past then.
     fn take_all(&mut self, alloc: Global, mut steps: Steps) -> Result<(), NotTaken>
         requires ahead { self.old.future ≡ [] }
         requires lines { length (steps_lines (reverse steps)) < 2 ^ 63 }
@@ -154,8 +133,7 @@ impl Walk {
         Ok(())
     }
 
-    /// Undoes the newest `count` steps; they are ahead then. The caller has taken that many: in the
-    /// contract `h` is the walk before that, and `ds` are the steps.
+    /// Undoes the newest `count` steps: in the contract `ds`, and `h` is the walk before them.
     fn go_back(&mut self, count: usize)
         ensures { (h : History State Change) → (ds : List (Step Change))
             → IsState h.state → CanTakeAll h.state ds → self.old ≡ gone_along h ds
@@ -167,9 +145,8 @@ impl Walk {
         }
     }
 
-    /// Takes a step, and returns whether it can be taken: its changes are possible, and its cursor
-    /// is at most the number of pulses afterwards. If `false`, nothing is said of the state left.
-    /// It fails only if memory runs out, and never before its first change is found possible.
+    /// Takes a step; `false` if its changes are not possible or its cursor is above the number of
+    /// pulses. Then, as after an error, nothing is said of the state.
     fn take(&mut self, alloc: Global, step: SavedStep) -> Result<bool, AllocError>
         requires ahead { self.old.future ≡ [] }
         ensures { MatchResult result
@@ -189,8 +166,7 @@ impl Walk {
         Ok(true)
     }
 
-    /// Makes the change of a step, alone or a group, and returns whether it can be made; the cursor
-    /// stays. If `false`, nothing is said of the state left. It fails only if memory runs out.
+    /// Makes the change of a step, alone or a group; the cursor stays.
     fn make(&mut self, alloc: Global, change: Change) -> Result<bool, AllocError>
         requires ahead { self.old.future ≡ [] }
         ensures { MatchResult result
@@ -205,8 +181,6 @@ impl Walk {
         }
     }
 
-    /// Makes a single change as one step if it can be made; else returns `false`, and the state
-    /// stays. It fails only if memory runs out.
     fn make_one(&mut self, alloc: Global, single: Single) -> Result<bool, AllocError>
         ensures { MatchResult result
             (λ made. MatchBool made
@@ -221,9 +195,7 @@ impl Walk {
         Ok(true)
     }
 
-    /// Makes single changes in their order, and one step of them, a group; an empty list makes a
-    /// group without changes. Returns whether all can be made; if `false`, some may be made. It
-    /// fails only if memory runs out. The list is reversed first, since `pop` takes from its end.
+    /// Makes single changes in their order, and one group of them.
     fn make_all(&mut self, alloc: Global, mut singles: Vec<Single>) -> Result<bool, AllocError>
         requires ahead { self.old.future ≡ [] }
         ensures { MatchResult result

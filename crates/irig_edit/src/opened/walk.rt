@@ -1,7 +1,4 @@
-//! A state on its way along the steps of a saved journal, from which a session is opened. A step is
-//! what one undo reverses. The cursor is the number of a pulse, from 1, or 0 before the first.
-//!
-//! What is marked "Read for .." does nothing: it only lets the proof use what a type promises.
+//! A state on its way along the steps of a saved journal, from which a session is opened.
 
 ghost use Rattle.std.specs.Prelude.{◌≡◌, ◌≢◌, ◌≤◌, ◌∷◌, Some, None, OnOk, [], drop, length, take};
 ghost use Rattle.irig_journal.specs.History.{step, stepped_back, turned_round};
@@ -21,9 +18,7 @@ use irig_saved::Single;
 use std::alloc::{AllocError, Global};
 use std::marker::Model;
 
-/// A state with its cursor, and the steps that lead back and forward from it. No group is open.
-///
-/// After a call that ran out of memory, nothing is said of the walk: it is of no more use.
+/// A state with its cursor and steps; no group is open. After an error it is of no more use.
 #[derive(Drop)]
 pub(crate) struct Walk {
     pub(crate) present: Present,
@@ -46,7 +41,6 @@ impl Model for Walk {
 }
 
 impl Walk {
-    /// The walk at a state with this cursor, with no steps back or forward. It takes no memory.
     pub(crate) fn new(alloc: Global, present: Present, cursor: usize) -> Walk
         ensures { result ≡ walk present.state cursor [] [] }
     {
@@ -57,7 +51,6 @@ impl Walk {
         }
     }
 
-    /// How many pulses the state has.
     pub(crate) fn len(&self) -> usize
         ensures len { result ≡ length self.now.state.pulses }
         ensures state { IsState self.now.state }
@@ -65,10 +58,7 @@ impl Walk {
         self.present.track().len()
     }
 
-    /// Makes a single change, which has to be possible, as a new step that can be undone; no step
-    /// can be redone then. The cursor stays: the caller moves it with `go` if the step says so. It
-    /// fails only if memory runs out: `record` has no other error. A `Turn` is a change with places
-    /// for the pulses that the change removes.
+    /// Makes a change, which has to be possible, as a new step; the cursor stays.
     pub(crate) fn change(&mut self, alloc: Global, single: Single) -> Result<(), AllocError>
         requires { FitsSingle self.old.state single }
         ensures { OnOk result (self.new ≡ changed self.old (One single)) }
@@ -81,10 +71,8 @@ impl Walk {
         }
     }
 
-    /// Makes one group of the newest `count` steps that can be undone. There must be that many. The
-    /// caller has moved the cursor in none of them, so the present cursor is that of the state
-    /// before the group, which an undo of the group gives back. If `count` is 0, a group without
-    /// changes is added: only that takes memory, and it fails only if memory runs out.
+    /// Makes one group of the newest `count` steps. The cursor moved in none of them, so it is that
+    /// of the state before. Only a group of none takes memory.
     pub(crate) fn gather(&mut self, count: usize) -> Result<(), AllocError>
         requires { count ≤ length self.old.past }
         ensures { OnOk result (self.new ≡ walk self.old.state self.old.cursor
@@ -97,16 +85,14 @@ impl Walk {
         }
     }
 
-    /// Moves the cursor to a pulse, which counts from 1. 0 is before the first pulse. The caller
-    /// has tested that the pulse is there; it is not tested here.
+    /// Moves the cursor to a pulse, from 1, or before the first: 0. It is not tested.
     pub(crate) fn go(&mut self, cursor: usize)
         ensures { self.new ≡ walk self.old.state cursor self.old.past self.old.future }
     {
         self.cursor = cursor;
     }
 
-    /// Undoes the newest step, which is ahead then, to be redone. If there is no step, nothing
-    /// happens. This takes no memory.
+    /// Undoes the newest step, if there is one.
     pub(crate) fn undo(&mut self)
         ensures { self.old.past ≢ [] → stepped_back turned self.old ≡ Some self.new }
     {
@@ -114,25 +100,19 @@ impl Walk {
         let _undone = self.journal.undo(&mut self.present, &mut self.cursor);
     }
 
-    /// Swaps past and future: a step that could be redone can now be undone, and the one that would
-    /// be redone next is undone first.
+    /// Swaps past and future.
     pub(crate) fn turn_round(&mut self)
         ensures { self.new ≡ turned_round self.old }
     {
         self.journal.turn_round();
     }
 
-    /// The session with the state, the cursor and the steps of this walk. The cursor must be at
-    /// most the number of pulses, and the steps must be ones that can be taken from this state
-    /// (`steps`): this is what a session promises. `last_looks` is 0: it counts how often the last
-    /// edit of the session read a pulse to keep the frames true, and the session has made no edit
-    /// yet.
+    /// The session of this walk; it has made no edit yet, so `last_looks` is 0.
     pub(crate) fn into_session(self, alloc: Global) -> Session
         requires cursor { self.cursor ≤ length self.state.pulses }
         requires steps { CanTakeAll self.state self.past × CanTakeAll self.state self.future }
         ensures { result ≡ session_view (work_over None self) result.looks 0 }
     {
-        // Read for the law of its type alone.
         let _len = self.len();
         Session {
             alloc,

@@ -1,5 +1,4 @@
-//! How far a saved session's text has been given: first the dump, and in a comment after it the
-//! journal, which has the steps back and then the steps forward.
+//! How far a saved session's text has been given.
 
 ghost use Rattle.std.specs.Prelude.{◌≡◌, ◌↔◌, IsTrue};
 ghost use Rattle.irig_edit.specs.Saved.Stages.{next_stage};
@@ -8,26 +7,22 @@ ghost use Rattle.irig_edit.specs.declared.saved.stage.Stage.TheVariants.{Over};
 /// What comes next of a saved session's text.
 #[derive(Clone, Copy)]
 pub(crate) enum Stage {
-    /// The dump, and after it the lines of the journal before its steps.
+    /// The dump, and then the journal's lines before its steps.
     Dump,
-    /// The steps back, which can be undone.
+    /// The steps that can be undone.
     Back,
-    /// The steps forward, which can be redone.
+    /// The steps that can be redone.
     On,
-    /// Nothing.
     Over,
 }
 
 impl Stage {
-    /// Whether the whole text has been given: nothing comes next.
     pub(crate) fn is_over(self) -> bool
         ensures { IsTrue result ↔ self ≡ Over }
     {
         matches!(self, Stage::Over)
     }
 
-    /// The stage that comes after this one: the dump, the steps back, the steps forward, `Over`.
-    /// After `Over` comes `Over`.
     pub(crate) fn next(self) -> Stage
         ensures { result ≡ next_stage self }
     {

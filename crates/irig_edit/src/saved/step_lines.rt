@@ -1,11 +1,4 @@
 //! The lines of the steps on one side of the present, back or forward, in parts.
-//!
-//! A step is a change, or a group of them, and the cursor of the state that it leads to. A line is
-//! one of the text of a saved journal. A block is a buffer of the caller, to which each call adds
-//! lines. In a contract `deltas_of` says what the changes of steps do, and `steps_text` is the text
-//! of such steps.
-//!
-//! Where `match` hands an error on, `?` would do the same; the proof of it takes longer.
 
 ghost use Rattle.std.specs.Prelude.{◌≡◌, ◌≤◌, ◌<◌, ◌++◌, [], IfOk, OnOk, false, length, true};
 ghost use Rattle.std.specs.Prelude.{vec_len};
@@ -21,8 +14,8 @@ use irig_saved::put_step;
 use std::alloc::AllocError;
 use std::marker::Model;
 
-/// The lines of steps that are still to be given: those of the changes of the step that has begun
-/// (`changes`), and of all steps in `left`.
+/// Lines that are still to be given: of the changes of the step that has begun, and of all in
+/// `left`.
 #[derive(Drop)]
 pub(crate) struct StepLines<'s> {
     changes: ChangeLines<'s>,
@@ -39,8 +32,6 @@ impl<'s> Model for StepLines<'s> {
 }
 
 impl<'s> StepLines<'s> {
-    /// The lines of all these steps, one step after another. No step has begun, so `changes` has no
-    /// lines yet. It takes no memory.
     pub(crate) fn new(steps: StepsLeft<'s, Turn>) -> StepLines<'s>
         ensures { result ≡ steps_text (deltas_of steps.entry) }
     {
@@ -50,10 +41,6 @@ impl<'s> StepLines<'s> {
         }
     }
 
-    /// Adds lines to a block until it has `enough` bytes or no line is left; the next call goes on
-    /// after the last of them. Returns `true` if no line is left and the block has fewer bytes than
-    /// `enough`; `false` if the block has `enough`, whether a line is left or not. It fails only if
-    /// memory runs out; then nothing is said of the lines that are left.
     pub(crate) fn fill(&mut self, block: &mut Vec<u8>, enough: usize) -> Result<bool, AllocError>
         ensures bytes { OnOk result (block.new.items ++ self.new ≡ block.old.items ++ self.old) }
         ensures end { IfOk result (λ ended. ended ≡ true → self.new ≡ []) }
@@ -74,10 +61,7 @@ impl<'s> StepLines<'s> {
     }
 }
 
-/// Begins the next step: writes its lines before its changes to the block, makes `changes`, which
-/// has no line left, the lines of its changes, and removes the step from `left`. The answer is
-/// `false` then. If no step is left, the answer is `true` and nothing is written. Otherwise there
-/// is a next step, so `unwrap` finds it. It fails only if memory runs out.
+/// Begins the next step: writes its lines before its changes. `true` if no step is left.
 fn begin_next<'s>(
     changes: &mut ChangeLines<'s>,
     left: &mut StepsLeft<'s, Turn>,
@@ -97,10 +81,7 @@ fn begin_next<'s>(
     Ok(false)
 }
 
-/// Writes the first line of a step, with its cursor. If the step is a group, a second line counts
-/// its changes. `kept` is the step as the journal keeps it. A step that is no group has one change,
-/// so it needs no count. Returns the lines of the changes, which are still to be written. It fails
-/// only if memory runs out.
+/// Writes the line of a step, and the count of its changes if it is a group.
 fn begin_step<'s>(text: &mut Vec<u8>, kept: Step<'s, Turn>) -> Result<ChangeLines<'s>, AllocError>
     requires alone { kept.is_group ≡ false → length kept.changes.now ≡ 1 }
     ensures { IfOk result (λ left. text.new.items ++ left ≡ text.old.items ++ text_of (step_lines

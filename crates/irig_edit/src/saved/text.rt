@@ -1,14 +1,4 @@
-//! The text of a saved session, in parts: the dump, the lines of the journal before its steps, the
-//! steps back, the steps forward, and the end. A stage is which of the dump, the steps back and the
-//! steps forward comes next. A block is a buffer of the caller, to which each call adds text. A
-//! journal is the history of a session. `past_steps` gives the steps back with the oldest first,
-//! `future_steps` those forward with the next redo first: in this order they are saved. After an
-//! error the text is given up: nothing is said of what is left of it.
-//!
-//! In a contract `opening_text` is the text between the dump and the steps back, `middle_text` the
-//! line between them and the steps forward, and `parts_left` all text from a stage on.
-//!
-//! Where `match` hands an error on, `?` would do the same; the proof of it takes longer.
+//! The text of a saved session, in parts.
 
 ghost use Rattle.std.specs.Prelude.{◌≡◌, ◌≤◌, ◌++◌, ℕ, List, [], IfOk, OnOk, false, reverse, true};
 ghost use Rattle.std.specs.Prelude.{vec_len};
@@ -26,8 +16,8 @@ use irig_track::TrackText;
 use std::alloc::AllocError;
 use std::marker::Model;
 
-/// The text of a saved session, in parts: the track's dump, and the journal after it. `dump`,
-/// `back` (the steps back) and `on` (the steps forward) give what is left of their parts.
+/// The dump, the journal's head, the steps back with the oldest first, the steps forward with the
+/// next redo first, and the end. After an error nothing is said of what is left.
 #[derive(Drop)]
 pub struct SavedText<'s> {
     dump: TrackText<'s>,
@@ -51,8 +41,6 @@ impl<'s> Model for SavedText<'s> {
 }
 
 impl<'s> SavedText<'s> {
-    /// The text of a state with its cursor and the steps of its journal, from its first byte on. It
-    /// takes no memory.
     pub(crate) fn new(
         present: &'s Present,
         cursor: usize,
@@ -75,9 +63,7 @@ impl<'s> SavedText<'s> {
 impl Text for SavedText<'_> {
     ghost rest = { λ t. t };
 
-    // Adds text to the block until it has `enough` bytes or the text ends. Returns `true` if the
-    // text has ended; `false` if not: then the block has `enough`, and the next call continues. It
-    // fails only if memory runs out.
+    // The answer is `false` if the block is full: then the next call continues.
     fn fill(&mut self, block: &mut Vec<u8>, enough: usize) -> Result<bool, AllocError> {
         // Each pass ends a stage, unless the block is full: then the answer is `Ok(false)`.
         while !self.stage.is_over() {
@@ -108,11 +94,7 @@ impl Text for SavedText<'_> {
     }
 }
 
-/// Adds what a stage has, the dump or steps, to a block until it has `enough` bytes. Returns `true`
-/// if none of the stage is left and the block has fewer bytes than `enough`; `false` if the block
-/// has `enough`, whether any of the stage is left or not. After the last stage nothing is added and
-/// the answer is `true`. It fails only if memory runs out. The texts between the stages, `opening`
-/// and `middle` in the contract, are not written here: `bytes` holds whatever they are.
+/// Adds what a stage has to a block; `bytes` holds whatever texts come between the stages.
 fn fill_stage(
     stage: Stage,
     dump: &mut TrackText<'_>,
@@ -137,10 +119,7 @@ fn fill_stage(
     }
 }
 
-/// Writes what comes after a stage, and makes `stage` the next one. After the dump come the lines
-/// of the journal before its steps, after the steps back the line that counts the steps forward,
-/// and after the steps forward `$end`; after the last stage nothing. It fails only if memory runs
-/// out.
+/// Writes what comes after a stage, and makes `stage` the next one.
 fn end_stage(
     stage: &mut Stage,
     text: &mut Vec<u8>,
@@ -162,9 +141,7 @@ fn end_stage(
     }
 }
 
-/// Writes the beginning of the comment that holds the journal: `$comment`, the journal's name,
-/// format, cursor and marks, and the line that counts the steps back. It fails only if memory runs
-/// out.
+/// Writes the journal's lines before its steps.
 fn put_opening(
     text: &mut Vec<u8>,
     present: &Present,

@@ -5,7 +5,7 @@ use irig_index::Verdict;
 /// A frame of the present track.
 #[derive(Clone, Copy)]
 pub struct Frame {
-    /// The number of the pulse with which it begins, from 1.
+    /// From 1, the pulse with which it begins.
     pub marker: usize,
     /// What it says, or where and why it is broken.
     pub verdict: Verdict,

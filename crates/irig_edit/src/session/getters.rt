@@ -1,6 +1,4 @@
-//! What a session shows of its present state. A step is what one undo reverses. A look is one read
-//! of a pulse to keep the frames true. The index has the frames; in it frames and pulses count from
-//! 0, here from 1.
+//! What a session shows of its present state.
 
 ghost use Rattle.std.specs.Prelude.{◌≡◌, ◌≤◌, ◌+◌, ◌-◌, length, Some, IfSome, IfOk, slice_get};
 ghost use Rattle.irig_recording.specs.FileText.{file_text};
@@ -16,7 +14,6 @@ use irig_text::whole;
 use irig_track::{Pulse, TrackText};
 use std::alloc::{AllocError, Global};
 
-/// The present state.
 impl Session {
     /// How long the track is, in microseconds.
     pub fn length(&self) -> u64
@@ -32,8 +29,7 @@ impl Session {
         self.present.track().len()
     }
 
-    /// The pulse with a number, from 1: its rise and its fall, in microseconds. The number must be
-    /// one of a pulse of the track.
+    /// The pulse with a number, from 1.
     pub fn pulse(&self, number: usize) -> Pulse
         requires { (1 ≤ number) × (number ≤ length self.now.state.pulses) }
         ensures { slice_get self.now.state.pulses (number - 1) ≡ Some result }
@@ -41,9 +37,7 @@ impl Session {
         self.present.pulse(number)
     }
 
-    /// All pulses of the track, in their order: the rise and the fall of each, in microseconds.
-    /// Each rises before it falls, and falls before the next one rises (`lawful`). `Err` means that
-    /// memory for the list ran out.
+    /// All pulses, the earliest first.
     pub fn pulses(&self, alloc: Global) -> Result<Vec<Pulse>, AllocError>
         ensures all { IfOk result (λ pulses. pulses.items ≡ self.now.state.pulses) }
         ensures lawful { IsTrack self.now.state.micros self.now.state.pulses }
@@ -56,8 +50,7 @@ impl Session {
         Ok(pulses)
     }
 
-    /// How many pulses rise at or before a time, in microseconds. So it is the number of the last
-    /// of them, from 1, or 0 if no pulse rises that early.
+    /// How many pulses rise at or before a time, in microseconds.
     pub fn find(&self, time: u64) -> usize
         ensures { result ≡ risen_by time self.now.state.pulses }
     {
@@ -71,8 +64,7 @@ impl Session {
         self.present.format()
     }
 
-    /// The time of a mark in microseconds; `None` if the mark is not set. `letter` names the mark:
-    /// it must be a byte from `a` to `z`, which are 97 to 122.
+    /// The time of the mark of a letter, a byte from `a` (97) to `z` (122), in microseconds.
     pub fn mark_time(&self, letter: u8) -> Option<u64>
         requires { (97 ≤ letter) × (letter ≤ 122) }
         ensures { slice_get self.now.state.marks (letter - 97) ≡ Some result }
@@ -80,7 +72,7 @@ impl Session {
         self.present.mark((letter - b'a') as usize)
     }
 
-    /// The cursor: the number of a pulse, from 1, or 0 before the first.
+    /// The number of a pulse, from 1, or 0 before the first.
     pub fn cursor(&self) -> usize
         ensures { result ≡ self.now.cursor }
     {
@@ -101,9 +93,7 @@ impl Session {
         self.journal.steps_forward()
     }
 
-    /// How many pulses the steps back hold in memory, and how many the steps forward hold. The step
-    /// that undoes an edit holds the pulses that the edit removed, since it brings them back; the
-    /// step that redoes an edit holds those that it inserts. The journal calls such counts weights.
+    /// How many pulses the steps back hold in memory, and how many the steps forward.
     pub fn held(&self) -> (u128, u128)
         ensures past { result.0 ≡ weight_of weight_of_change self.now.past }
         ensures future { result.1 ≡ weight_of weight_of_change self.now.future }
@@ -111,24 +101,21 @@ impl Session {
         self.journal.weights()
     }
 
-    /// How many looks at pulses the last accepted edit, undo, redo or abort took to keep the
-    /// frames; 0 before any.
+    /// Looks of the last accepted edit, undo, redo or abort; 0 before any.
     pub fn last_looks(&self) -> u64
         ensures { result ≡ self.now.last_looks }
     {
         self.last_looks
     }
 
-    /// How many frames the track has, broken ones included, if it is read in the session's format.
+    /// How many frames the track has, broken ones included.
     pub fn frames(&self) -> usize
         ensures { result ≡ length (frames_of self.now.state) }
     {
         self.present.index().len()
     }
 
-    /// The frame with a number, which must be from 1 to `frames()`; frames are in the order of
-    /// time. It has the number of the pulse with which it begins, from 1, and what it says or why
-    /// it is broken.
+    /// The frame with a number, from 1.
     pub fn frame(&self, number: usize) -> Frame
         requires { (1 ≤ number) × (number ≤ length (frames_of self.now.state)) }
         ensures { IfSome (slice_get (frames_of self.now.state) (number - 1))
@@ -141,9 +128,7 @@ impl Session {
         }
     }
 
-    /// The text of the track's dump, without a journal. `whole` collects its parts in one `Vec`; it
-    /// asks for memory for `text_room` bytes at first, in which a dump fits. It fails only if
-    /// memory runs out.
+    /// The dump without a journal.
     pub fn text(&self) -> Result<Vec<u8>, AllocError>
         ensures { IfOk result (λ text.
             text.items ≡ file_text (recording_of self.now.state)) }
@@ -151,7 +136,7 @@ impl Session {
         whole(self.alloc, self.present.text_room(), &mut self.text_parts())
     }
 
-    /// The text that `text` returns, the track's dump, to be given in parts. This takes no memory.
+    /// The text of `text`, in parts. This takes no memory.
     pub fn text_parts(&self) -> TrackText<'_>
         ensures { result ≡ file_text (recording_of self.now.state) }
     {

@@ -1,6 +1,4 @@
-//! What a session keeps, taken apart by patterns. The functions do nothing as they run: they only
-//! have to compile. Each pattern names all fields of a type, and each `let` the type of a field. If
-//! one of these types keeps more, such as a former state, this file no longer compiles.
+//! What a session keeps, taken apart by patterns with all fields: this has only to compile.
 
 use crate::changes::turn::Turn;
 use crate::session::session::Session;
@@ -13,9 +11,7 @@ use irig_saved::{Letter, Letters, Marks, Pulses, Single};
 use irig_track::{Pulse, Track};
 use std::alloc::Global;
 
-/// Shows what a session keeps: an allocator, one state, a cursor, a journal of changes and a count
-/// of looks at pulses. It keeps no former state. What the journal keeps is shown by one of its
-/// steps, as only types matter: `next` gives the oldest of the past, if there is one.
+/// Shows that it keeps no former state.
 pub fn take_apart(session: &Session) {
     let Session {
         alloc,
@@ -34,7 +30,7 @@ pub fn take_apart(session: &Session) {
     }
 }
 
-/// Shows what a state keeps: a track, a format, marks and the index of its frames.
+/// What a state keeps.
 fn state_parts(present: &Present) {
     let Present {
         track,
@@ -48,8 +44,7 @@ fn state_parts(present: &Present) {
     let _index: &Index = index;
 }
 
-/// Shows what a step keeps: its single changes, whether they are a group, and a cursor. One change
-/// is enough to show, as only types matter.
+/// What a step keeps; one change is enough, as only types matter.
 fn step_parts(step: &Step<'_, Turn>) {
     let Step {
         changes,
@@ -63,16 +58,14 @@ fn step_parts(step: &Step<'_, Turn>) {
     }
 }
 
-/// Shows what a turn keeps: a single change, and a buffer for the pulses that the change removes.
+/// What a turn keeps.
 fn turn_parts(turn: &Turn) {
     let Turn { single, taken } = turn;
     let _taken: &Gap<Pulse> = taken;
     single_parts(single);
 }
 
-/// Shows what a single change keeps: it is of one of these kinds, and keeps numbers, a kind of
-/// format or letters. A splice also keeps the pulses that it inserts. None keeps a track. For a
-/// toggle, which has two times, the names of its fields are enough.
+/// What a single change keeps: none of these keeps a track.
 fn single_parts(single: &Single) {
     match single {
         Single::Splice { at, count, put } => {

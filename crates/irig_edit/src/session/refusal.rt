@@ -5,10 +5,7 @@ ghost use Rattle.irig_edit.specs.declared.session.refusal.Refusal.TheVariants.{O
 
 use std::alloc::AllocError;
 
-/// Why a call of a session is refused, with its number. The session is then as it was, the steps to
-/// redo included.
-///
-/// If several hold, the first in this order is answered; so out of memory, E11, is the last of all.
+/// The first that holds is answered, in this order; the session is then as it was.
 #[derive(Clone, Copy, PartialEq, Eq)]
 pub enum Refusal {
     /// E1: times are not in order, or lie beyond the length, or would come to lie there.
@@ -44,7 +41,6 @@ pub enum Refusal {
 impl From<AllocError> for Refusal {
     ghost from_gives = { λ _ e. e ≡ OutOfMemory };
 
-    // An `AllocError` says that memory ran out, which is E11. So `?` of an edit can return it.
     fn from(_e: AllocError) -> Refusal {
         Refusal::OutOfMemory
     }

@@ -1,16 +1,4 @@
 //! A track under edit.
-//!
-//! A step is what one undo reverses; the journal keeps the steps. E and a number names a `Refusal`,
-//! which has the numbers. A look is one read of a pulse to keep the frames true; `last_looks` is
-//! how many the last accepted change, undo, redo or abort took. `looks` counts all looks so far,
-//! and `looks_since(before)` those since that count was `before`.
-//!
-//! In a contract `Steps` says what a call does to the states and steps of the session, or why it is
-//! refused, and `LooksAfter` bounds its looks. `edit` is a call that edits; `judgement_of` is the
-//! first refusal of an edit, if it has one; `Plans`, `Becomes` and `change_by` say to what pulses,
-//! state and change an edit leads. `work_in` is the state of a session with its cursor and steps,
-//! `grouped_in` the same with each former state whole; `made` and `recorded_over` are what a change
-//! makes of them.
 
 ghost use Rattle.std.specs.Prelude.{◌≡◌, ◌≤◌, ◌<◌, ◌-◌, length, IfOk, OnOk, OnErr, IsErrOf, None};
 ghost use Rattle.std.specs.Prelude.{Ok};
@@ -38,9 +26,6 @@ use std::alloc::{AllocError, Global};
 use std::marker::Model;
 
 /// A track with its format, marks and cursor, and the steps that can be undone and redone.
-///
-/// Pulses count from 1, and the cursor is the number of a pulse, or 0 before the first. Times are
-/// in microseconds. A refused call changes nothing.
 #[derive(Drop)]
 pub struct Session {
     pub(crate) alloc: Global,
@@ -66,8 +51,8 @@ impl Model for Session {
 }
 
 impl Session {
-    /// The session of a recording in a format. The cursor is at the last pulse, or 0 if there is
-    /// none; no mark is set, and no step can be undone or redone. It fails only if memory runs out.
+    /// The session of a recording. The cursor is at the last pulse, and there is no mark and no
+    /// step.
     pub fn open(alloc: Global, recording: Recording, format: Format) -> Result<Session, AllocError>
         ensures { IfOk result (λ s. (s ≡ started s.looks s.state)
             × (recording_of s.state ≡ recording) × (s.state.format ≡ format)
@@ -84,8 +69,7 @@ impl Session {
         })
     }
 
-    /// Sets the format in which frames are read, as a step; the cursor stays. The only refusal is
-    /// E11: memory runs out. E6 is not needed: a `Format` has an expression that is permitted.
+    /// Sets the format in which frames are read, as a step; the cursor stays.
     pub fn format(&mut self, format: Format) -> Result<(), Refusal>
         ensures step { Steps (Make (SetFormat format)) self.old result self.new }
         ensures looks { LooksAfter (Make (SetFormat format)) self.old result self.new }
@@ -95,10 +79,8 @@ impl Session {
         self.change(Single::SetFormat { kind, expression }, cursor)
     }
 
-    /// Sets the mark of a letter to a time in microseconds, or clears it if `time` is `None`. This
-    /// is a step; the cursor stays. The letter must be a byte from `a` to `z`, which are 97 to 122.
-    ///
-    /// E1, `OutOfRange`, if the time is beyond the length; E11 if memory runs out.
+    /// Sets the mark of a letter, a byte from `a` to `z`, to a time in microseconds, or clears it,
+    /// as a step; the cursor stays. E1.
     pub fn mark(&mut self, letter: u8, time: Option<u64>) -> Result<(), Refusal>
         requires { (97 ≤ letter) × (letter ≤ 122) }
         ensures step { Steps (Make (SetMark (letter - 97) time)) self.old result self.new }
@@ -112,11 +94,7 @@ impl Session {
         self.change(Single::SetMark { letter, time }, cursor)
     }
 
-    /// Undoes the newest step: track, format, marks and cursor are those before this step. The step
-    /// can be redone then. This takes no memory.
-    ///
-    /// E9, `NothingToUndo`, if there is no step; E14, `GroupFloor`, if the newest step was made
-    /// before the open group was begun.
+    /// Undoes the newest step. This takes no memory. E9, or E14 if it is older than the open group.
     pub fn undo(&mut self) -> Result<(), Refusal>
         ensures step { Steps Undo self.old result self.new }
         ensures looks { LooksAfter Undo self.old result self.new }
@@ -133,10 +111,7 @@ impl Session {
         }
     }
 
-    /// Redoes the step that was undone last: track, format, marks and cursor are those at the undo.
-    /// This takes no memory.
-    ///
-    /// E10, `NothingToRedo`, if there is no such step: the journal has no other refusal of a redo.
+    /// Redoes the step that was undone last. This takes no memory. E10.
     pub fn redo(&mut self) -> Result<(), Refusal>
         ensures step { Steps Redo self.old result self.new }
         ensures looks { LooksAfter Redo self.old result self.new }
@@ -151,9 +126,7 @@ impl Session {
         }
     }
 
-    /// Moves the cursor to a pulse, from 1. This takes no memory, and is no step.
-    ///
-    /// E2, `NoPulse`, unless the pulse is there; so it is the answer to 0, too.
+    /// Moves the cursor to a pulse, from 1. This is no step. E2.
     pub fn go(&mut self, pulse: usize) -> Result<(), Refusal>
         ensures step { Steps (Go pulse) self.old result self.new }
         ensures looks { LooksAfter (Go pulse) self.old result self.new }
@@ -165,11 +138,8 @@ impl Session {
         Ok(())
     }
 
-    /// Replaces `count` pulses from pulse `first` on, which counts from 1, by the pulses of `put`.
-    /// This is a step that leaves the cursor at `cursor`: a pulse that is there afterwards, from 1,
-    /// or 0. The edit that calls this has tested that it is possible. So the only refusal is E11:
-    /// memory runs out, and nothing changes. `at` of a `Splice` counts from 1, as `first` does; the
-    /// lists of the contract count from 0.
+    /// Replaces `count` pulses from pulse `first` on, from 1, as a step; the edit has tested that
+    /// it can.
     pub(crate) fn splice(
         &mut self,
         first: usize,
@@ -190,12 +160,8 @@ impl Session {
         self.change(Single::Splice { at, count, put }, cursor)
     }
 
-    /// Makes a change, which the caller has found possible, as a step. It leaves the cursor at
-    /// `cursor`: a pulse that is there afterwards, from 1, or 0. All steps that could be redone are
-    /// dropped. The memory for an undo and a redo of the change is asked for here. If memory runs
-    /// out, which is the only error of `record`, the answer is E11 and nothing has changed. A
-    /// `Turn` is the change with places for the pulses that go; `place` is the present cursor,
-    /// which an undo gives back.
+    /// Makes a change, which the caller has found possible, as a step; steps that could be redone
+    /// are dropped. It leaves the cursor at `cursor`, and an undo gives `place` back.
     pub(crate) fn change(&mut self, single: Single, cursor: usize) -> Result<(), Refusal>
         requires fits { Fits self.old.state (One single) }
         requires cursor { cursor ≤ length (turned self.old.state (One single)).0.pulses }
