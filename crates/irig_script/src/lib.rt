@@ -1,4 +1,4 @@
-//! Scripts of edits: what their lines ask for, what is done for them and what is printed.
+//! Scripts of edits: what is done for what their lines ask for, and what is printed.
 #![tactic(auto)]
 
 mod law;

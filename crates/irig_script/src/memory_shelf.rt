@@ -1,6 +1,4 @@
-//! A shelf in memory. A shelf is where the lines `write` and `save` of a script write their texts;
-//! one write may be set to fail. In contracts, `known` is what is known of a shelf, and `Puts` says
-//! which texts were written, and how many writes failed.
+//! A shelf in memory, for tests.
 
 ghost use Rattle.std.specs.Prelude.{◌≡◌, ◌++◌, ◌∷◌, [], length, map, Some, IfOk, IsErr, IsFalse};
 ghost use Rattle.std.specs.Prelude.{IsTrue, OnErr, OnOk};
@@ -11,13 +9,13 @@ use irig_text::{Shelf, ShelfFault, Text, whole};
 use std::alloc::Global;
 use std::marker::Model;
 
-/// A shelf that keeps its texts, for tests: one write may be set to fail.
+/// A shelf that keeps its texts; one write may be set to fail.
 #[derive(Drop)]
 pub struct MemoryShelf {
     alloc: Global,
-    // The number, from 1, of the write that is to fail.
+    // The number of the write that is to fail, from 1.
     fail: Option<u64>,
-    // How many writes were asked for, and how many of them failed; both stay at 2^64 - 1.
+    // Both stay at 2^64 - 1.
     puts: u64,
     failures: u64,
     texts: Vec<Vec<u8>>,
@@ -34,7 +32,7 @@ impl Model for MemoryShelf {
 }
 
 impl MemoryShelf {
-    /// An empty shelf. The write of number `fail`, from 1, fails; with `None` none is set to fail.
+    /// An empty shelf; the write of number `fail`, from 1, fails.
     pub fn new(alloc: Global, fail: Option<u64>) -> MemoryShelf
         ensures { result ≡ shelf_view [] 0 0 fail }
     {
@@ -47,7 +45,7 @@ impl MemoryShelf {
         }
     }
 
-    /// The texts written, in order; a write that failed has none.
+    /// The texts that were written, in order.
     pub fn texts(&self) -> &[Vec<u8>]
         ensures { map (λ t. t.items) result.now ≡ self.now.texts }
     {
@@ -64,10 +62,7 @@ impl Shelf for MemoryShelf {
 
     ghost since_then = { λ _ _ _ _ _. tt };
 
-    // Keeps a copy of the text and returns how many bytes it has. An error, `ShelfFault`, keeps
-    // nothing: memory ran out, or this is the write that is to fail (`next_put` is its number, from
-    // 1). Each write is counted, and each that failed. `whole` makes the copy; 0 is the room that
-    // it begins with, in bytes.
+    // `next_put` is the number of this write. The room that `whole` begins with is 0 bytes.
     fn put<T: Text>(&mut self, text: &mut T) -> Result<u64, ShelfFault>
         ensures count { IfOk result (λ count. count ≡ length (T.rest text.old)) }
         ensures ok { OnOk result
@@ -91,8 +86,7 @@ impl Shelf for MemoryShelf {
     }
 }
 
-/// Adds a text to the texts and returns `true`; or `false` if memory runs out: the texts stay as
-/// they were then.
+/// Adds a text; `false` if memory runs out, and the texts stay.
 fn keep(texts: &mut Vec<Vec<u8>>, text: Vec<u8>) -> bool
     ensures kept { IsTrue result → map (λ t. t.items) texts.new.items
         ≡ map (λ t. t.items) texts.old.items ++ text.items ∷ [] }

@@ -1,19 +1,4 @@
-//! The bytes of a script, obeyed one after another: a newline ends a line, which is obeyed and
-//! answered before the next byte.
-//!
-//! `line` has the bytes that came of a line whose newline has not come yet, and `status` says
-//! whether a line was refused so far. The screen is the output with the witness that watches it,
-//! and the shelf is where the lines `write` and `save` write. A witness is shown the output and the
-//! shelf after each line was obeyed, before its answer is printed. `PrintFault` says that an answer
-//! was not printed whole.
-//!
-//! In a contract, `Holds text` says that `line` has the bytes `text`, and a desk is what is known
-//! of the screen and the shelf. `Obeyed` says what the bytes of a script did, and `BrokeIn` that
-//! they were obeyed up to an answer that was not printed whole. `since` is what the shelf promises
-//! of each later state, whatever is written to it in between.
-//!
-//! Where `match` or `let Ok(..) else` returns an error, `?` would do the same; the proof of it
-//! takes longer.
+//! The bytes of a script, obeyed one after another; a newline ends a line.
 
 ghost use Rattle.std.specs.Prelude.{◌≡◌, ◌++◌, ◌∷◌, [], ℕ, List, IfOk, OnErr};
 ghost use Rattle.irig_script.specs.Print.Printed.{answer_with, reply_text};
@@ -34,10 +19,8 @@ use irig_print::PrintFault;
 use irig_text::Shelf;
 use std::io::Write;
 
-/// Obeys bytes of a script, and returns whether a line that ends in them is `quit`, which ends the
-/// script. `line` has what came of the first line before these bytes. Bytes after the line `quit`
-/// are passed over. If no line is `quit`, what came of the last line waits in `line`. `Err` if an
-/// answer is not printed whole; bytes after its line are not obeyed.
+/// Obeys bytes of a script and returns whether a line that ends in them is `quit`. `line` has what
+/// came of the first line before them; bytes after `quit` are passed over.
 pub fn obey_bytes<W: Write, N: Witness, S: Shelf>(
     line: &mut Line,
     bytes: &[u8],
@@ -66,9 +49,7 @@ pub fn obey_bytes<W: Write, N: Witness, S: Shelf>(
     Ok(false)
 }
 
-/// Obeys one byte. A newline ends the line, which is obeyed and answered, and `line` is empty then.
-/// Any other byte is added to `line`. Returns `true` only if the byte ends the line `quit`, which
-/// ends the script and has no answer. `Err` if the answer is not printed whole.
+/// Obeys one byte, and returns whether it ends the line `quit`.
 fn obey_byte<W: Write, N: Witness, S: Shelf>(
     line: &mut Line,
     byte: u8,
@@ -92,7 +73,6 @@ fn obey_byte<W: Write, N: Witness, S: Shelf>(
         return Ok(false);
     }
     let Some(reply) = obey_line(line, session, shelf) else {
-        // Only the line `quit` has no reply.
         return Ok(true);
     };
     let Ok(()) = answer(reply, session, shelf, screen, status) else {
@@ -102,9 +82,7 @@ fn obey_byte<W: Write, N: Witness, S: Shelf>(
     Ok(false)
 }
 
-/// Answers a line: notes in the status if it was refused, shows output and shelf to the witness,
-/// and then prints the reply. So the witness sees that what the line wrote is there before its
-/// answer goes out. `Err` if the reply is not printed whole.
+/// Answers a line. The witness sees output and shelf before the reply is printed.
 fn answer<W: Write, N: Witness, S: Shelf>(
     reply: Reply,
     session: &Session,

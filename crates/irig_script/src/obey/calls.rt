@@ -1,15 +1,4 @@
-//! Commands as calls of the session.
-//!
-//! An address names a pulse; a range names one pulse, or all from one address to another.
-//! `number_at`, `ends` and `time` say which pulses and times are meant, as the session is before
-//! the call. Pulses count from 1 here. The number 0 is that of a pulse that is not there, and the
-//! session refuses it. Times are in microseconds. The time of a mark that is not set is above each
-//! length, and is refused, too.
-//!
-//! The reply to an edit is `Silent`, or `Refused` with the reason; a refused edit changes nothing.
-//! Each edit can also be refused because memory runs out (`OutOfMemory`), which is not said again
-//! below. An edit of pulses also moves the cursor, as the call of the session says. In contracts,
-//! `Obeys` says that the session may give this reply to a command, and what it has then.
+//! Commands as calls of the session, as it is before the call.
 
 ghost use Rattle.std.specs.Prelude.{◌≡◌};
 ghost use Rattle.irig_lines.specs.declared.command.Command.{Command};
@@ -23,7 +12,7 @@ use irig_lines::{Address, Range, Time};
 use irig_moment::Moment;
 use irig_saved::Letter;
 
-/// The reply to an edit: `Silent`, or that it was refused and why.
+/// The reply to an edit.
 fn reply_to(outcome: Result<(), Refusal>) -> Reply
     ensures { result ≡ reply_to outcome }
 {
@@ -33,9 +22,7 @@ fn reply_to(outcome: Result<(), Refusal>) -> Reply
     }
 }
 
-/// Moves the cursor to a pulse, and lists that pulse alone: the reply has how many come before it,
-/// and 1. Refused if the pulse is not there (`NoPulse`). Number 0 is always refused, so the
-/// subtraction of 1 does not go below 0.
+/// Moves the cursor to a pulse, and lists it. Number 0 is refused, so the 1 can be subtracted.
 pub fn show(session: &mut Session, address: Address) -> Reply
     ensures { Obeys (Command.Show address) session.old result session.new }
 {
@@ -46,8 +33,7 @@ pub fn show(session: &mut Session, address: Address) -> Reply
     }
 }
 
-/// Lists the pulses of a range: the reply has how many come before them, and how many they are.
-/// Refused if the range has a pulse that is not there, or ends before it begins (`NoPulse`).
+/// Lists the pulses of a range: how many come before them, and how many they are.
 pub fn list(session: &Session, range: Range) -> Reply
     ensures { Obeys (Command.List range) session.now result session.now }
 {
@@ -59,8 +45,7 @@ pub fn list(session: &Session, range: Range) -> Reply
     }
 }
 
-/// Removes the pulses of a range, its ends included. Refused if one of them is not there, or the
-/// range ends before it begins (`NoPulse`).
+/// Removes the pulses of a range.
 pub fn delete(session: &mut Session, range: Range) -> Reply
     ensures { Obeys (Command.Delete range) session.old result session.new }
 {
@@ -68,9 +53,7 @@ pub fn delete(session: &mut Session, range: Range) -> Reply
     reply_to(session.delete(first, last))
 }
 
-/// Moves the pulses of a range by `by` microseconds: later, or earlier if `by` is below zero.
-/// Refused if one of them is not there or the range ends before it begins (`NoPulse`), or if they
-/// would leave the track (`OutOfRange`) or meet the pulse before or after them (`Touching`).
+/// Moves the pulses of a range by `by` microseconds; below zero is earlier.
 pub fn shift(session: &mut Session, range: Range, by: i64) -> Reply
     ensures { Obeys (Command.Shift range by) session.old result session.new }
 {
@@ -78,9 +61,7 @@ pub fn shift(session: &mut Session, range: Range, by: i64) -> Reply
     reply_to(session.shift(first, last, by))
 }
 
-/// Makes one pulse of all pulses of a range. If the range is one address, its pulse and the next
-/// are joined (`join_ends`). Refused if one of them is not there, or the last is not after the
-/// first (`NoPulse`).
+/// Makes one pulse of all pulses of a range; of one address and the next pulse (`join_ends`).
 pub fn join(session: &mut Session, range: Range) -> Reply
     ensures { Obeys (Command.Join range) session.old result session.new }
 {
@@ -88,10 +69,7 @@ pub fn join(session: &mut Session, range: Range) -> Reply
     reply_to(session.join(first, last))
 }
 
-/// Makes two pulses of the one of `address`: the level becomes low inside of it, from the time
-/// `from` to `to`. Refused if the times are not in order or beyond the length (`OutOfRange`), the
-/// pulse is not there (`NoPulse`), a time is not inside of the pulse (`NotInside`), or there are
-/// 2^22 pulses (`TooMany`).
+/// Makes the level low inside of a pulse, from one time to another.
 pub fn split(session: &mut Session, address: Address, from: Time, to: Time) -> Reply
     ensures { Obeys (Command.Split address from to) session.old result session.new }
 {
@@ -100,9 +78,7 @@ pub fn split(session: &mut Session, address: Address, from: Time, to: Time) -> R
     reply_to(session.split(number, from, to))
 }
 
-/// Gives a pulse the nominal width of `element`: its rise stays, and its fall moves. Refused if the
-/// pulse is not there (`NoPulse`), or the new fall would be beyond the length (`OutOfRange`) or not
-/// before the next rise (`Touching`).
+/// Gives a pulse the nominal width of `element`; its rise stays.
 pub fn force(session: &mut Session, address: Address, element: Element) -> Reply
     ensures { Obeys (Command.Force address element) session.old result session.new }
 {
@@ -110,9 +86,7 @@ pub fn force(session: &mut Session, address: Address, element: Element) -> Reply
     reply_to(session.force(number, element))
 }
 
-/// Inserts a pulse from one time to another. Refused if the times are not in order or beyond the
-/// length (`OutOfRange`), an edge is there or the level is high (`Touching`), or there are 2^22
-/// pulses (`TooMany`).
+/// Inserts a pulse from one time to another.
 pub fn insert(session: &mut Session, from: Time, to: Time) -> Reply
     ensures { Obeys (Command.Insert from to) session.old result session.new }
 {
@@ -120,8 +94,7 @@ pub fn insert(session: &mut Session, from: Time, to: Time) -> Reply
     reply_to(session.insert(from, to))
 }
 
-/// Inverts the level from one time to another. Refused if the times are not in order or beyond the
-/// length (`OutOfRange`), or there would be more than 2^22 pulses (`TooMany`).
+/// Inverts the level from one time to another.
 pub fn invert(session: &mut Session, from: Time, to: Time) -> Reply
     ensures { Obeys (Command.Invert from to) session.old result session.new }
 {
@@ -129,12 +102,8 @@ pub fn invert(session: &mut Session, from: Time, to: Time) -> Reply
     reply_to(session.invert(from, to))
 }
 
-/// Generates `frames` frames from the time `start` on, in place of the pulses that rise there. The
-/// first has the moment `from`, a date and a time of day; the lowest bit of `control` is the first
-/// control function. Refused unless there are 1 to 10,000 frames within the length (`OutOfRange`);
-/// or if a pulse rises before `start` and does not fall before it (`Touching`), there would be more
-/// than 2^22 pulses (`TooMany`), no frame begins at the moment (`BadTime`), or `control` has more
-/// bits than the format (`BadControl`).
+/// Generates frames from `start` on, instead of the pulses that rise there; the first has the
+/// moment `from`, and the lowest bit of `control` is the first control function.
 pub fn regen(session: &mut Session, start: Time, frames: u64, from: Moment, control: u64) -> Reply
     ensures { Obeys (Command.Regen start frames from control) session.old result session.new }
 {
@@ -142,8 +111,7 @@ pub fn regen(session: &mut Session, start: Time, frames: u64, from: Moment, cont
     reply_to(session.regen(start, frames, from, control))
 }
 
-/// Sets the format in which frames are read from now on: a kind of time code, and the number of a
-/// coded expression. Refused if the kind has no such expression (`BadExpression`).
+/// Sets the format in which frames are read.
 pub fn set_format(session: &mut Session, kind: Kind, expression: u8) -> Reply
     ensures { Obeys (Command.Format kind expression) session.old result session.new }
 {
@@ -153,8 +121,7 @@ pub fn set_format(session: &mut Session, kind: Kind, expression: u8) -> Reply
     }
 }
 
-/// Sets the mark of a letter to a time. Refused if the time is beyond the length (`OutOfRange`).
-/// `byte` gives the letter as the session takes it.
+/// Sets the mark of a letter to a time.
 pub fn mark(session: &mut Session, letter: Letter, at: Time) -> Reply
     ensures { Obeys (Command.Mark letter at) session.old result session.new }
 {
@@ -162,47 +129,42 @@ pub fn mark(session: &mut Session, letter: Letter, at: Time) -> Reply
     reply_to(session.mark(letter.byte(), Some(time)))
 }
 
-/// Clears the mark of a letter, also if it is not set. Refused only if memory runs out: this is a
-/// step, too, that can be undone.
+/// Clears the mark of a letter. This is a step, too, also if the mark was not set.
 pub fn unmark(session: &mut Session, letter: Letter) -> Reply
     ensures { Obeys (Command.Unmark letter) session.old result session.new }
 {
     reply_to(session.mark(letter.byte(), None))
 }
 
-/// Undoes the newest step, which is an edit or a group of them. Refused if there is none
-/// (`NothingToUndo`), or it was made before the open group was begun (`GroupFloor`).
+/// Undoes the newest step.
 pub fn undo(session: &mut Session) -> Reply
     ensures { Obeys Command.Undo session.old result session.new }
 {
     reply_to(session.undo())
 }
 
-/// Redoes the step that was undone last. Refused if there is none (`NothingToRedo`).
+/// Redoes the step that was undone last.
 pub fn redo(session: &mut Session) -> Reply
     ensures { Obeys Command.Redo session.old result session.new }
 {
     reply_to(session.redo())
 }
 
-/// Opens a group: what is done from here on becomes one step (`end`), or is undone (`abort`).
-/// Refused if one is open (`GroupOpen`).
+/// Opens a group of edits.
 pub fn begin(session: &mut Session) -> Reply
     ensures { Obeys Command.Begin session.old result session.new }
 {
     reply_to(session.begin())
 }
 
-/// Makes one step of what was done since the group was opened, none if nothing was done. Refused if
-/// no group is open (`NoGroup`).
+/// Makes one step of what was done since the group was opened.
 pub fn end(session: &mut Session) -> Reply
     ensures { Obeys Command.End session.old result session.new }
 {
     reply_to(session.end())
 }
 
-/// Undoes what was done since the group was opened, for good: track, format, marks and cursor are
-/// as they were then, and nothing is left to redo. Refused if no group is open (`NoGroup`).
+/// Undoes what was done since the group was opened, for good.
 pub fn abort(session: &mut Session) -> Reply
     ensures { Obeys Command.Abort session.old result session.new }
 {

@@ -1,17 +1,4 @@
 //! A script run on a dump.
-//!
-//! A dump can carry a journal, the history of a session as text; both have at most 2^28 bytes. The
-//! screen is the output with the witness that watches it, and the shelf is where the lines `write`
-//! and `save` write. A witness is shown the output and the shelf after each line was obeyed, before
-//! its answer is printed. `Status` says whether a line was refused. An error is a fault of the dump
-//! (then no line was read), or a fault of the run.
-//!
-//! In a contract, a desk is what is known of the screen and the shelf, and `IsOpened` says that a
-//! session is the one that a dump gives. The label of a shelf sets it apart from others, so `label`
-//! says that it is still the same shelf; `since` is what the shelf promises of each later state,
-//! whatever is written to it in between. `ReadsTo` says that at most 2^44 bytes of the script were
-//! read (2^32 reads of 4,096), and that only the last 4,096 of these can have the line that ends
-//! it.
 
 ghost use Rattle.std.specs.Prelude.{◌≡◌, ◌≢◌, ◌⊎◌, ◌≤◌, ◌^◌, ℕ, List, Option, length, Ok, Err};
 ghost use Rattle.std.specs.Prelude.{IfSome, MatchResult};
@@ -41,19 +28,13 @@ use std::io::{Read, Write};
 pub enum DumpRunFault {
     /// The dump was not opened: no line of the script was read.
     Dump(VcdFault),
-    /// The run of the script was broken off.
+    /// The script was not obeyed to its end.
     Run(RunFault),
 }
 
-/// Opens a dump and obeys a script on its session. Returns whether a line was refused, as
-/// `engine::run` does. The wire is chosen by its name; without a name the dump has to have one wire
-/// of one bit. Frames are read in the format, unless the dump has a journal with another. The bytes
-/// of the dump (`source`) are dropped before the script is read.
-///
-/// A fault of the dump (`Dump`), also that memory ran out for it, comes before all lines: nothing
-/// is read of the script, printed or written then. Any later error is one of the run (`Run`). That
-/// memory ran out for the dump is reported only if some is needed: the wire has an edge, or the
-/// dump can be read and its session takes memory (`MayBeShort`).
+/// Opens a dump and obeys a script on its session; without a wire's name the dump has to have one
+/// wire of one bit. `format` is only for a dump without a journal. The bytes are dropped before the
+/// script is read.
 pub fn run_on_dump<R: Read, W: Write, N: Witness, S: Shelf>(
     alloc: Global,
     source: Vec<u8>,
@@ -81,15 +62,9 @@ pub fn run_on_dump<R: Read, W: Write, N: Witness, S: Shelf>(
     }
 }
 
-/// Obeys a script on the session of a recording and the text of its journal, if it has one: the two
-/// parts that `irig_vcd` reads from a dump. It does what `run_on_dump` does with the bytes of that
-/// dump. Frames are read in `format`, unless the journal has another. The text is dropped before
-/// the script is read.
-///
-/// A journal that is wrong is a fault of the dump (`Dump`), and so is that memory ran out for the
-/// session. Nothing is read of the script, printed or written then. `memory` says that with a
-/// journal memory runs out only while the lines of its steps are read, or after the form of all its
-/// lines, the format, the cursor and the marks are found right.
+/// What `run_on_dump` does, on the parts that `irig_vcd` reads from a dump: its recording and the
+/// text of its journal. Of a journal memory runs out only while its steps are read, or after its
+/// head was found right.
 pub fn run_on_parts<R: Read, W: Write, N: Witness, S: Shelf>(
     alloc: Global,
     recording: Recording,
@@ -117,8 +92,7 @@ pub fn run_on_parts<R: Read, W: Write, N: Witness, S: Shelf>(
     }
 }
 
-/// Obeys a script on the session of a dump, as `engine::run` does: to the script's end, or to its
-/// line `quit`. Returns whether a line was refused. An error is always one of the run, `Run`.
+/// Obeys a script on the session of a dump.
 fn run_opened<R: Read, W: Write, N: Witness, S: Shelf>(
     mut session: Session,
     script: &mut R,
@@ -138,8 +112,7 @@ fn run_opened<R: Read, W: Write, N: Witness, S: Shelf>(
     as_run(engine::run(&mut session, script, screen, shelf))
 }
 
-/// How a run on a dump ended, by how the run of the script ended: the status is the same, and a
-/// fault becomes one of the run (`Run`).
+/// The end of a run on a dump, by how the run of its script ended.
 fn as_run(ended: Result<Status, RunFault>) -> Result<Status, DumpRunFault>
     ensures { MatchResult ended (λ status. result ≡ Ok status) (λ fault. result ≡ Err (Run fault)) }
 {

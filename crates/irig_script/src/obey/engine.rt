@@ -1,20 +1,4 @@
-//! The run of a script: it is read in parts, and the bytes of each part are obeyed (`obey_bytes`).
-//!
-//! `line` has the bytes that came of a line whose newline has not come yet, and `status` says
-//! whether a line was refused so far. The screen is the output with the witness that watches it,
-//! and the shelf is where the lines `write` and `save` write. A witness is shown the output and the
-//! shelf after each line was obeyed, before its answer is printed.
-//!
-//! In a contract, `Holds text` says that `line` has the bytes `text`, and a desk is what is known
-//! of the screen and the shelf. `EndsAs` says what a run did, by how it ended. `IsUnderway` says
-//! that some reads were made and all that they gave was obeyed; `GoesOn` says it with one read
-//! more, or that the run has ended. `ReadsTo` says that at most 2^44 bytes of the script were read
-//! (2^32 reads of 4,096), and that only the last 4,096 of these can have the line that ends it. The
-//! label of a shelf sets it apart from others, so `label` says that it is still the same shelf;
-//! `since` is what the shelf promises of each later state, whatever is written to it in between.
-//!
-//! Where `match` or `let Ok(..) else` returns an error, `?` would do the same; the proof of it
-//! takes longer.
+//! The run of a script, which is read in parts.
 
 ghost use Rattle.std.specs.Prelude.{◌≡◌, ◌<◌, ◌≤◌, ◌^◌, ℕ, List, Option, IfErr, length, take};
 ghost use Rattle.std.specs.{Io.ReadsAtMost, Io.KnownBytes.ReadConsumes};
@@ -33,15 +17,14 @@ use irig_edit::Session;
 use irig_text::Shelf;
 use std::io::{Read, Write};
 
-/// The most bytes of one read of a script. A read may give fewer.
+/// Bytes, at most, of one read of a script.
 const READ_LIMIT: usize = 4096;
 
-/// The most reads of a script, so that each run ends: an input could go on for ever.
+/// The most reads of a script, so that each run ends.
 const READS_LIMIT: u64 = 4_294_967_296;
 
-/// Obeys a script to its end, or to its line `quit`, and returns whether a line was refused. A line
-/// is answered before the next is obeyed. The errors: a read failed (`ReadFailed`), a write of the
-/// output failed (`PrintFailed`), or 2^32 reads did not end the script (`TooManyReads`).
+/// Obeys a script to its end or its line `quit`, and returns whether a line was refused; each line
+/// is answered before the next is obeyed.
 pub fn run<R: Read, W: Write, N: Witness, S: Shelf>(
     session: &mut Session,
     script: &mut R,
@@ -76,14 +59,9 @@ pub fn run<R: Read, W: Write, N: Witness, S: Shelf>(
     Err(RunFault::TooManyReads)
 }
 
-/// Makes one read of a script and obeys the bytes that it gives. Returns whether the script has
-/// ended: nothing was left to read, or a line was `quit`. If nothing was left, a last line that
-/// lacks its newline is obeyed, too. A line that has not ended waits in `line`; `buffer` is room
-/// for the bytes of the read. `ReadFailed` if the read fails, and `PrintFailed` if an answer cannot
-/// be printed whole.
-///
-/// In the contract, `reads` is how many reads were made before; `start`, `from` and `first` are
-/// script, desk and session as the run began.
+/// Makes one read of a script and obeys its bytes. Returns whether the script has ended; then a
+/// last line that lacks its newline is obeyed, too. In the contract `reads` were made before, and
+/// `start`, `from` and `first` are script, desk and session as the run began.
 fn read_and_obey<R: Read, W: Write, N: Witness, S: Shelf>(
     script: &mut R,
     buffer: &mut [u8; READ_LIMIT],
@@ -109,14 +87,12 @@ fn read_and_obey<R: Read, W: Write, N: Witness, S: Shelf>(
         return Err(RunFault::PrintFailed);
     };
     if count == 0 {
-        // Nothing was left to read.
         return Ok(true);
     }
     Ok(ended)
 }
 
-/// Makes one read of a script into the buffer. Returns how many bytes it gave, 0 if nothing is left
-/// to read. Each error of the read is `ReadFailed`.
+/// Makes one read of a script; 0 if nothing is left.
 fn read_part<R: Read>(script: &mut R, buffer: &mut [u8; READ_LIMIT]) -> Result<usize, RunFault>
     ensures bound { ReadsAtMost result buffer.new }
     ensures bytes { ReadConsumes (R.remaining script.old) (R.remaining script.new) result
@@ -129,8 +105,7 @@ fn read_part<R: Read>(script: &mut R, buffer: &mut [u8; READ_LIMIT]) -> Result<u
     }
 }
 
-/// The bytes to obey after a read of `count` bytes: those that it gave. If it gave none, the script
-/// ends: a newline then, if `line` has bytes of a last line that lacks one, else no byte.
+/// The bytes of this read; at the end of the script a newline, if the last line lacks one.
 fn bytes_to_obey<'a>(buffer: &'a [u8; READ_LIMIT], count: usize, line: &Line) -> &'a [u8]
     requires { count ≤ length buffer.now }
     ensures { (text : List ℕ) → Holds text line.now

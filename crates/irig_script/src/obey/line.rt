@@ -1,13 +1,11 @@
-//! The line of a script that is being read. `Holds text` in a contract says that the bytes `text`
-//! came since the line was empty.
+//! The line of a script that is being read.
 
 ghost use Rattle.std.specs.Prelude.{◌≡◌, ◌≤◌, ◌<◌, ◌++◌, ◌∷◌, [], ◌≢◌, ℕ, List, IfSome, IfNone};
 ghost use Rattle.std.specs.Prelude.{length, ◌==◌};
 
-/// The most bytes of a line, its newline not counted.
+/// Bytes, at most, of a line without its newline.
 const LINE_LIMIT: usize = 1000;
 
-/// The bytes of a line so far, as long as they are at most 1,000.
 #[derive(Drop)]
 pub struct Line {
     bytes: [u8; LINE_LIMIT],
@@ -20,7 +18,6 @@ pub struct Line {
 impl Line {
     ghost use Rattle.irig_script.specs.Obey.Progress.{Holds};
 
-    /// An empty line.
     pub fn new() -> Line
         ensures { Holds [] result }
     {
@@ -31,7 +28,6 @@ impl Line {
         }
     }
 
-    /// Makes the line empty.
     pub fn clear(&mut self)
         ensures { Holds [] self.new }
     {
@@ -39,8 +35,7 @@ impl Line {
         self.long = false;
     }
 
-    /// Takes one more byte, which is no newline. Of a line that is too long only the first 1,000
-    /// bytes are kept, and `long` says so.
+    /// Takes one more byte, which is no newline.
     pub fn push(&mut self, byte: u8)
         requires { byte ≢ 10 }
         ensures { (text : List ℕ) → Holds text self.old → Holds (text ++ byte ∷ []) self.new }
@@ -53,14 +48,13 @@ impl Line {
         }
     }
 
-    /// Whether no byte has come since the line was made empty.
     pub fn is_empty(&self) -> bool
         ensures { (text : List ℕ) → Holds text self.now → result ≡ (length text == 0) }
     {
         self.len == 0
     }
 
-    /// The bytes of the line; `None` if more than 1,000 came.
+    /// The bytes of the line; `None` if there are too many.
     pub fn text(&self) -> Option<&[u8]>
         ensures whole { IfSome result (λ bytes. (text : List ℕ) → Holds text self.now
             → (bytes.now ≡ text) × (length text ≤ 1000)) }

@@ -1,9 +1,4 @@
-//! What is replied to a line of a script, and done for it. Each function below `obey` is called
-//! only with the commands of its purpose, so its last case never comes. The call of a command in
-//! `calls` says what it does and when it is refused. The shelf is where `write` and `save` write
-//! their texts. In a contract, `Obeys` says that the session may give this reply to a command, and
-//! what it has then. `Puts` says which texts were written to the shelf, and how many writes failed.
-//! `since` is what the shelf promises of each later state.
+//! What is replied to a line of a script, and done for it: `calls` has each call.
 
 ghost use Rattle.std.specs.Prelude.{◌≡◌, ◌≢◌, length};
 ghost use Rattle.irig_script.specs.Obey.Obeying.{Obeys};
@@ -25,9 +20,7 @@ use irig_edit::Session;
 use irig_lines::{BadLine, Command, Purpose, parse_line};
 use irig_text::Shelf;
 
-/// Obeys a line and returns its answer, refused or not; `None` if it is `quit`, which ends the
-/// script. A line of more than 1,000 bytes is `LineTooLong`, one that is not valid `BadLine`. A
-/// refused line changes nothing of the session.
+/// Obeys a line; `None` if it is `quit`. A refused line changes nothing of the session.
 pub fn obey_line<S: Shelf>(line: &Line, session: &mut Session, shelf: &mut S) -> Option<Reply>
     ensures answers { Answers result (S.known shelf.old) (S.known shelf.new)
         session.old session.new line.now }
@@ -43,9 +36,7 @@ pub fn obey_line<S: Shelf>(line: &Line, session: &mut Session, shelf: &mut S) ->
     }
 }
 
-/// Obeys a command that does not end the script. `write` and `save` write their text to the shelf,
-/// and the reply is `Written` or `WriteFailed`; all others do not need it, and have the reply of
-/// `obey`.
+/// Obeys a command that does not end the script; only `write` and `save` need the shelf.
 fn write_or_obey<S: Shelf>(command: Command, session: &mut Session, shelf: &mut S) -> Reply
     requires { command ≢ Command.Quit }
     ensures answer { Obeys command session.old result session.new }
@@ -62,10 +53,8 @@ fn write_or_obey<S: Shelf>(command: Command, session: &mut Session, shelf: &mut 
     }
 }
 
-/// Obeys a command that neither writes a text nor ends the script. Each purpose of a command has
-/// its function below, which says what the reply is. A blank line or a comment, whose purpose is
-/// `Nothing`, changes nothing and prints nothing (`Silent`). The purposes `Text` and `End` do not
-/// come, and no reply is `Written` or `WriteFailed` (`IsQuiet`).
+/// Obeys a command that neither writes a text nor ends the script. Each function below has the
+/// commands of one purpose, so its last case never comes.
 pub fn obey(command: Command, session: &mut Session) -> Reply
     requires goes_on { command ≢ Command.Quit }
     requires writes_none { command ≢ Command.Write }
@@ -83,7 +72,6 @@ pub fn obey(command: Command, session: &mut Session) -> Reply
     }
 }
 
-/// Obeys an edit of the pulses. The reply is `Silent`, or says why the session refuses the edit.
 fn edit(command: Command, session: &mut Session) -> Reply
     requires { purpose_of command ≡ Purpose.Edit }
     ensures answer { Obeys command session.old result session.new }
@@ -104,7 +92,6 @@ fn edit(command: Command, session: &mut Session) -> Reply
     }
 }
 
-/// Sets or clears a mark. The reply is `Silent`, or says why the session refuses it.
 fn set_mark(command: Command, session: &mut Session) -> Reply
     requires { purpose_of command ≡ Purpose.Mark }
     ensures answer { Obeys command session.old result session.new }
@@ -117,8 +104,6 @@ fn set_mark(command: Command, session: &mut Session) -> Reply
     }
 }
 
-/// Sets the format in which frames are read. The reply is `Silent`, or says why it is refused: the
-/// kind has no such expression, or memory runs out.
 fn choose_format(command: Command, session: &mut Session) -> Reply
     requires { purpose_of command ≡ Purpose.Format }
     ensures answer { Obeys command session.old result session.new }
@@ -130,8 +115,7 @@ fn choose_format(command: Command, session: &mut Session) -> Reply
     }
 }
 
-/// Answers a question: the reply says what is to be listed, or, for `show` and `list`, that a pulse
-/// is not there. `show`, which names a pulse, moves the cursor to it.
+/// `show` moves the cursor to its pulse; no other question does.
 fn answer_question(command: Command, session: &mut Session) -> Reply
     requires { purpose_of command ≡ Purpose.Question }
     ensures answer { Obeys command session.old result session.new }
@@ -147,8 +131,6 @@ fn answer_question(command: Command, session: &mut Session) -> Reply
     }
 }
 
-/// Undoes or redoes a step, opens a group of steps (`begin`), closes it (`end`), or undoes what is
-/// in it and drops it (`abort`). The reply is `Silent`, or says why the session refuses it.
 fn change_steps(command: Command, session: &mut Session) -> Reply
     requires { purpose_of command ≡ Purpose.Steps }
     ensures answer { Obeys command session.old result session.new }

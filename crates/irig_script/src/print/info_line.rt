@@ -1,6 +1,4 @@
-//! The line that the command `info` prints. A row is this line in memory, while it is put together;
-//! it has room for 256 bytes. `PrintFault` says that a write of the output failed; the front of the
-//! line may be printed then.
+//! The line that the command `info` prints.
 
 ghost use Rattle.std.specs.Prelude.{◌≡◌, ◌≤◌, ◌+◌, ◌++◌, [], codes, length, decimal};
 ghost use Rattle.irig_codes.specs.Words.{kind_word};
@@ -13,9 +11,7 @@ use irig_edit::Session;
 use irig_print::{PrintFault, Row, put_all};
 use std::io::Write;
 
-/// Prints the line: the length in microseconds, how many pulses and frames there are, the format,
-/// the cursor (a pulse, from 1, or 0 before the first), and how many steps can be undone and
-/// redone.
+/// Prints the line.
 pub fn print_info<W: Write>(session: &Session, out: &mut W) -> Result<(), PrintFault>
     ensures { Prints (W.contents out.old) (W.contents out.new) (info_text session.now) result }
 {
@@ -28,10 +24,8 @@ pub fn print_info<W: Write>(session: &Session, out: &mut W) -> Result<(), PrintF
     put_all(out, row.text())
 }
 
-/// Writes the length of the track in microseconds, how many pulses and frames it has, and their
-/// format: its kind, and the number of its coded expression. The row is empty before. The words
-/// have 32 bytes, the kind 1 and each of the four numbers at most 20: 113 in all, so at most 120.
-/// The rest of the line has at most 83, and the row has room for 256.
+/// Writes length, pulses, frames and format to an empty row. Its words have 32 bytes, the kind 1
+/// and each of the four numbers at most 20; the rest of the line has at most 83.
 fn put_track(row: &mut Row, session: &Session)
     requires { row.old ≡ [] }
     ensures text { row.new ≡ codes "length " ++ decimal session.now.state.micros
@@ -50,8 +44,7 @@ fn put_track(row: &mut Row, session: &Session)
     put_count(row, b" ", format.expression() as u64);
 }
 
-/// Writes a word and a number. The row has room for the word and 20 digits more, the most that a
-/// number has: 236 and 20 are the 256 bytes of a row.
+/// Writes a word and a number, which has at most 20 digits: 236 and 20 are the 256 bytes of a row.
 fn put_count(row: &mut Row, word: &[u8], count: u64)
     requires room { length row.old + length word.now ≤ 236 }
     ensures text { row.new ≡ row.old ++ word.now ++ decimal count }

@@ -1,8 +1,4 @@
-//! The listing of the frames. Lines wait in a block until it is full; a row is one line, while it
-//! is put together. `PrintFault` says that a write of the output failed; the front of the listing
-//! may be printed then.
-//!
-//! Where `let .. else` hands an error on, `?` would do the same; the proof of it takes longer.
+//! The listing of the frames.
 
 ghost use Rattle.std.specs.Prelude.{◌≡◌, ◌≤◌, ◌-◌, Some, length, slice_get};
 ghost use Rattle.irig_index.specs.declared.record.Record.{Record};
@@ -14,9 +10,8 @@ use irig_edit::Session;
 use irig_print::{Block, PrintFault, Row, put_frame};
 use std::io::Write;
 
-/// Prints a line for each frame of the track, in blocks: at the end what still waits goes out. It
-/// is a call of its own and never inlined: else the block would be on the stack of `print` for each
-/// reply, also for those that list nothing.
+/// Prints a line for each frame, in blocks. It is not inlined, else the block would be on the stack
+/// of `print` for each reply.
 #[inline(never)]
 pub fn print_frames<W: Write>(session: &Session, out: &mut W) -> Result<(), PrintFault>
     ensures { Prints (W.contents out.old) (W.contents out.new)
@@ -33,10 +28,7 @@ pub fn print_frames<W: Write>(session: &Session, out: &mut W) -> Result<(), Prin
     block.flush(out)
 }
 
-/// Makes the row the line of one frame, by its number, from 1. The line has this number, the number
-/// of the pulse with which the frame begins, from 1, when this pulse rises, in microseconds, and
-/// the verdict: what the frame says, or where it is broken. In the record that `session.frame`
-/// gives, the pulse (`marker`) counts from 1, too.
+/// Makes the row the line of a frame, by its number, from 1.
 fn put_record(row: &mut Row, session: &Session, number: usize)
     requires { (1 ≤ number) × (number ≤ length (frames_of session.now.state)) }
     ensures { (r : Record) → slice_get (frames_of session.now.state) (number - 1) ≡ Some r

@@ -1,8 +1,4 @@
-//! The listing of pulses. A line has at most `LINE_ROOM` bytes, which are 72. A block is bytes on
-//! the stack, in which lines are put together that go out by one write. `PrintFault` says that a
-//! write of the output failed; the front of the listing may be printed then.
-//!
-//! Where `let .. else` hands an error on, `?` would do the same; the proof of it takes longer.
+//! The listing of pulses; a line has at most `LINE_ROOM` bytes, which are 72.
 
 ghost use Rattle.std.specs.Prelude.{◌≡◌, ◌≤◌, ◌-◌, ◌*◌, length, drop};
 ghost use Rattle.irig_script.specs.Print.Listings.{list_text};
@@ -12,18 +8,15 @@ use irig_edit::Session;
 use irig_print::{LINE_ROOM, PrintFault, put_all, write_pulse};
 use std::io::Write;
 
-/// The most lines of a listing that has a short block. A block is filled with zeros before it is
-/// used, so a short listing should not take a long one. 14 lines take 1,008 bytes, just below 1
-/// KiB.
+/// The most lines for a short block, just below 1 KiB. A block is filled with zeros first, so a
+/// short listing should not have a long one.
 const FEW: usize = 14;
 
-/// The bytes of the block of a longer listing, which has room for 227 lines.
+/// The bytes of a long block: 227 lines.
 const BLOCK: usize = 16384;
 
-/// Prints a line for each of `count` pulses after the first `before`, as far as the track has them.
-/// There are blocks of three lengths: for one line, for `FEW` lines, and of `BLOCK` bytes
-/// (`print_many`). It uses the shortest that has room for all lines, which go out by one write
-/// then. If none has, it uses the longest, again and again.
+/// Prints the lines of `count` pulses after the first `before`, by the shortest block that has room
+/// for all.
 pub fn print_pulses<W: Write>(
     session: &Session,
     before: usize,
@@ -42,9 +35,8 @@ pub fn print_pulses<W: Write>(
     }
 }
 
-/// Prints a line for each of `count` pulses after the first `before`, as far as the track has them,
-/// by a long block, `BLOCK`. It is a call of its own and never inlined: else the long block would
-/// be on the stack of `print_pulses` for a short listing, too.
+/// The same by a long block. It is not inlined, else this would be on the stack for a short
+/// listing, too.
 #[inline(never)]
 fn print_many<W: Write>(
     session: &Session,
@@ -58,9 +50,7 @@ fn print_many<W: Write>(
     print_in_blocks(session, before, count, &mut [0; BLOCK], out)
 }
 
-/// Prints a line for each of `count` pulses after the first `before`, as far as the track has them.
-/// As many lines as have room in `block`, at least one, go out at a time. Nothing is printed if the
-/// track has no more than `before` pulses.
+/// The same by this block: as many lines as it has room for go out at a time.
 fn print_in_blocks<W: Write>(
     session: &Session,
     before: usize,
@@ -85,10 +75,8 @@ fn print_in_blocks<W: Write>(
     Ok(())
 }
 
-/// Writes the lines of `count` pulses, the last of them of number `last`, from 1, to the end of
-/// `bytes`. Returns the place in `bytes`, from 0, at which the lines start. They are written from
-/// the last to the first: so no digit has to be counted or moved before it is written. The caller
-/// has room for all lines, at most 72 bytes each, and has seen that the pulses are there.
+/// Writes the lines of `count` pulses, the last of number `last`, to the end of `bytes`, and
+/// returns where they start. Written from the last to the first, no digit is counted or moved.
 fn write_pulses(bytes: &mut [u8], session: &Session, last: usize, count: usize) -> usize
     requires room { 72 * count ≤ length bytes.old }
     requires there { (count ≤ last) × (last ≤ length session.now.state.pulses) }

@@ -1,5 +1,4 @@
-//! What is answered to a line of a script. `PrintFault` says that a write of the output failed; the
-//! front of the answer may be printed then.
+//! What is answered to a line of a script.
 
 ghost use Rattle.std.specs.Prelude.{◌≡◌, ◌++◌, ◌∷◌, [], true, decimal};
 ghost use Rattle.irig_script.specs.Print.Printed.{refusal_text, reply_text};
@@ -14,23 +13,18 @@ use irig_edit::{Refusal, Session};
 use irig_print::{PrintFault, put_all};
 use std::io::Write;
 
-/// What is answered to a line of a script.
+/// An answer to a line; S1 to S3 are refusals of the line itself.
 #[derive(Clone, Copy)]
 pub enum Reply {
-    /// The line was obeyed, and prints nothing.
+    /// Nothing is printed.
     Silent,
-    /// A text of this many bytes was written.
+    /// Bytes of the text that was written.
     Written(u64),
-    /// Pulses are listed: the first number is how many come before them, the second how many they
-    /// are.
+    /// How many pulses come before those of the list, and how many these are.
     Listed(usize, usize),
-    /// The frames of the track are listed.
     Frames,
-    /// The marks are listed.
     Marks,
-    /// Counts, format and cursor are printed.
     Info,
-    /// The session refuses the command.
     Refused(Refusal),
     /// S1: the line is not valid.
     BadLine,
@@ -41,8 +35,7 @@ pub enum Reply {
 }
 
 impl Reply {
-    /// Whether the line was refused: by the session, as not valid, as too long, or since its text
-    /// could not be written.
+    /// Whether the line was refused.
     pub fn is_refusal(&self) -> bool
         ensures { result ≡ is_refusal self.now }
     {
@@ -53,9 +46,8 @@ impl Reply {
     }
 }
 
-/// Prints what a reply asks for, by what the session has now: nothing for `Silent`, else a line or
-/// a listing. A line goes out by one write, if the output takes it, and a listing in blocks of
-/// lines. The line of a refusal is that of `refusal_line`.
+/// Prints what a reply asks for, by what the session has now. A line goes out by one write, if the
+/// output takes it.
 pub fn print<W: Write>(reply: Reply, session: &Session, out: &mut W) -> Result<(), PrintFault>
     ensures { Prints (W.contents out.old) (W.contents out.new)
         (reply_text session.now reply) result }
@@ -72,8 +64,7 @@ pub fn print<W: Write>(reply: Reply, session: &Session, out: &mut W) -> Result<(
     }
 }
 
-/// The line that says why a line of the script is refused. The caller has a reply that is a
-/// refusal, so the last case is `WriteFailed`. The line is the same whatever the session has (`m`).
+/// The line of a refusal, whatever the session has (`m`).
 fn refusal_line(reply: Reply) -> &'static [u8]
     requires { is_refusal reply ≡ true }
     ensures { (m : Machine) → result.now ≡ reply_text m reply }
@@ -86,7 +77,6 @@ fn refusal_line(reply: Reply) -> &'static [u8]
     }
 }
 
-/// The line that says why the session refuses a command.
 fn session_refusal_line(why: Refusal) -> &'static [u8]
     ensures { result.now ≡ refusal_text why }
 {
@@ -108,9 +98,7 @@ fn session_refusal_line(why: Refusal) -> &'static [u8]
     }
 }
 
-/// Prints a number and a newline. The buffer is full of newlines at first; the digits are written
-/// into it so that they end before its last place, 23 (from 0), which stays a newline. A number has
-/// at most 20 digits. `write_digits` gives the place of the first one.
+/// Prints a number, of at most 20 digits, and a newline: the last byte of the buffer.
 fn put_number<W: Write>(out: &mut W, number: u64) -> Result<(), PrintFault>
     ensures { Prints (W.contents out.old) (W.contents out.new) (decimal number ++ 10 ∷ []) result }
 {
