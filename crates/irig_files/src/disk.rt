@@ -1,9 +1,4 @@
-//! What the program asks of files. Reading has two faults: `DumpFileFault` is of the file, which is
-//! not there, cannot be read or is too long, or memory runs out; `VcdFault` inside is of the dump
-//! in it. `Parts` are the recording of a wire and the text of the journal that the dump carries, if
-//! it has one, and `LongParts` the same of up to 2^26 pulses. An `Extent` says how much of a dump
-//! is kept. What a path leads to is at the end of its links. A ghost item is for contracts alone:
-//! it is nothing in the program.
+//! What the program asks of files.
 
 ghost use Rattle.std.specs.Prelude.{◌≡◌, ◌<◌, ◌≤◌, ◌^◌, Bool, ℕ, List, Option, Some, IfErr, IfOk};
 ghost use Rattle.std.specs.Prelude.{IfSome, IsErr, IsErrOf, IsTrue, false, length, true};
@@ -27,7 +22,7 @@ pub trait Disk {
     /// What the file at a path holds, if it is known.
     ghost held: { Self → List ℕ → Option (List ℕ) };
 
-    /// The file at a path is not read, for this fault: a call that reads it has it.
+    /// A call that reads the file at a path has this fault.
     ghost unread: { Self → List ℕ → DumpFileFault → Type 0 };
 
     /// Whether the contracts know the state below: true of folders in memory, false of the system.
@@ -42,9 +37,7 @@ pub trait Disk {
     /// A file is not replaced: it must not be written.
     ghost is_barred: { Self → ℕ → Type 0 };
 
-    /// Reads the dump in the file at a path, of the wire named `wire`, or if none is named of the
-    /// one wire of one bit. If the file has more than 2^28 bytes: `TooLong`; at most one more byte
-    /// is read. If nothing is at the path: `CannotBeRead`.
+    /// Reads the dump in the file at a path; of more than 2^28 bytes at most one more is read.
     fn read(
         &self,
         alloc: Global,
@@ -56,10 +49,7 @@ pub trait Disk {
             → IfSome (held self.now path.now) (λ all. 2 ^ 28 < length all) }
         ensures unread { IfErr result (unread self.now path.now) };
 
-    /// Reads the dump in the file at a path, of the wire named `wire`, or if none is named of the
-    /// one wire of one bit, and keeps as much of it as `extent` says. If the file has more bytes
-    /// than `extent_bytes`, which is 2^28, or 2^47 for a window or a long recording: `TooLong`; at
-    /// most one more byte is read. If nothing is at the path: `CannotBeRead`.
+    /// The same, of as much of the dump as `extent` says.
     fn read_extent(
         &self,
         alloc: Global,
@@ -73,14 +63,10 @@ pub trait Disk {
             → IfSome (held self.now path.now) (λ all. extent_bytes extent < length all) }
         ensures unread { IfErr result (unread self.now path.now) };
 
-    /// Writes a text to the file that a path leads to: a regular one, or none yet, is replaced
-    /// whole, by a file of its permissions. One that must not be written (`is_barred`) is not
-    /// replaced: that is a fault, nothing changes, and the file still must not be written
-    /// (`still`). After any other fault a regular file has its old text, or the new one if only the
-    /// last sync failed; what is written in place may have a front of the text. What is no regular
-    /// file, or is what the program's answers go to, is written in place. What the room, which is
-    /// the memory of a write, holds before is lost. `Written` says how the text was written, and
-    /// its count how many bytes it has; a `ShelfFault` says only that the write failed.
+    /// Writes a text to what a path leads to: a regular file, or none yet, is replaced whole;
+    /// anything else, and what the program's answers go to, is written in place. After a fault
+    /// there is the old text, or the new one if only the last sync failed; in place there may be a
+    /// front of the text.
     fn put<T: Text>(
         &mut self,
         path: &str,
@@ -96,8 +82,7 @@ pub trait Disk {
         ensures still { IsTrue is_told → StaysBarred (is_barred self.old) (is_barred self.new)
             (disk self.old) (disk self.new) path.now };
 
-    /// Whether two paths lead to one regular file: false if one of them leads to nothing, or to
-    /// what is no regular file. `Err` if the system does not say what is at one of them.
+    /// Whether two paths lead to one regular file: false if one leads to none.
     fn is_same(&self, one: &str, other: &str) -> Result<bool, ShelfFault>
         ensures apart { IsTrue is_told → IfOk result (λ same. same ≡ false
             → AreApart (disk self.now) one.now other.now) }

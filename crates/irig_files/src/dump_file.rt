@@ -1,10 +1,4 @@
-//! Reads the dump in a file, in parts. A read has two faults: the outer one, `DumpFileFault`, is of
-//! the file, the inner one, `VcdFault`, of the dump in it. `Parts` are the recording of a wire and
-//! the text of the journal that the dump carries, if it has one. `wire` is the name of the wire; if
-//! none is named, the dump has to have one wire of one bit. An `Extent` says how much of the dump
-//! is kept: a part of its time or all, of at most 2^22 pulses or, if it is long, 2^26. An `Intake`
-//! (`intake`) takes in the parts and counts their bytes (`IsCounted`). `rt` is what the program has
-//! of the system. `DUMP_LIMIT` is 2^28 bytes.
+//! Reads the dump in a file, in parts.
 
 ghost use Rattle.std.specs.Prelude.{◌≡◌, ◌≢◌, ◌<◌, ◌^◌, ◌↔◌, ℕ, List, Some, None, IfOk, OnOk};
 ghost use Rattle.std.specs.Prelude.{IfErr, IfSome, IsErrOf, IsOk, IsTrue, MatchResult, true, false};
@@ -24,7 +18,7 @@ use std::rt::Files;
 use std::{fs, io};
 use thiserror::Error;
 
-/// How many bytes are read at a time, at most: 64 KiB, this project's own choice.
+/// Bytes of one read, at most: 64 KiB, this project's own choice.
 const PART: usize = 65_536;
 
 /// Why the dump in a file was not read.
@@ -36,7 +30,6 @@ pub enum DumpFileFault {
     /// The file has more than 2^28 bytes, or 2^47 if a window or a long recording is read.
     #[error("too long")]
     TooLong,
-    /// Memory ran out.
     #[error("V14 OutOfMemory")]
     OutOfMemory,
 }
@@ -44,7 +37,6 @@ pub enum DumpFileFault {
 impl From<io::Error> for DumpFileFault {
     ghost from_gives = { λ _ e. e ≢ TooLong };
 
-    // The error of a call as a fault: `OutOfMemory` if memory ran out, else `CannotBeRead`.
     fn from(error: io::Error) -> DumpFileFault {
         match error.kind() {
             ErrorKind::OutOfMemory => DumpFileFault::OutOfMemory,
@@ -53,8 +45,8 @@ impl From<io::Error> for DumpFileFault {
     }
 }
 
-/// Whether a file shows by its size that it has more than 2^28 bytes, so that nothing of it is
-/// read. False if the system does not describe it: then its bytes are counted as they are read.
+/// Whether a file shows by its size that it is too long; if the system does not say, its bytes are
+/// counted.
 fn is_too_long(described: io::Result<Metadata>) -> bool
     ensures { MatchResult described (λ d. IsTrue result
         ↔ (IsFile (file_type d) × (2 ^ 28 < metadata_len d))) (λ _. result ≡ false) }
@@ -65,8 +57,7 @@ fn is_too_long(described: io::Result<Metadata>) -> bool
     }
 }
 
-/// Whether a file that is so described has more than 2^28 bytes. Only a regular file has a size; a
-/// pipe shows none.
+/// Only a regular file has a size; a pipe shows none.
 fn shows_more(described: &Metadata) -> bool
     ensures { IsTrue result
         ↔ (IsFile (file_type described.now) × (2 ^ 28 < metadata_len described.now)) }
@@ -74,8 +65,7 @@ fn shows_more(described: &Metadata) -> bool
     described.is_file() && described.len() > DUMP_LIMIT as u64
 }
 
-/// What `take_part` answers after an error of a read: `Ok(true)` if it was interrupted, since the
-/// next can give more; else the fault that the error is (`from`).
+/// What `take_part` answers after an error: after an interruption the next read can give more.
 fn after_error(error: io::Error) -> Result<bool, DumpFileFault>
     ensures more { IfOk result (λ is_more. is_more ≡ true) }
     ensures interrupted { IsOk result ↔ (error_kind error ≡ ErrorKind.Interrupted) }
@@ -87,9 +77,8 @@ fn after_error(error: io::Error) -> Result<bool, DumpFileFault>
     }
 }
 
-/// Takes in the next bytes that a reader gives; `part` is the memory for them. `true` if it may
-/// have more, also after an interruption; `false` if it gave no byte: it is at its end, or no more
-/// bytes are wanted and it was asked for none. `Err` if the read fails or memory runs out.
+/// Takes in the next bytes that a reader gives; `part` is the memory for them. `false` if it gave
+/// none, as it is at its end or was asked for none.
 fn take_part<R: Read>(
     dump: &mut Intake,
     reader: &mut R,
@@ -116,9 +105,8 @@ fn take_part<R: Read>(
     }
 }
 
-/// Takes in all that a reader has left, part by part, up to one byte more than the longest dump
-/// has: then `Intake::end` reports `TooLong`. `Err` if a read fails or memory runs out. A part has
-/// a byte (`room`), so a read of none is the end. The loop has a bound so that it is sure to end.
+/// Takes in all that a reader has left, up to one byte more than the longest dump has. The loop has
+/// a bound so that it is sure to end.
 fn take_all<R: Read>(
     dump: &mut Intake,
     reader: &mut R,
@@ -140,12 +128,11 @@ fn take_all<R: Read>(
             Err(fault) => return Err(fault),
         }
     }
-    // no file has that many parts: only a reader that is interrupted each time comes here
+    // Only a reader that is interrupted each time comes here.
     Err(DumpFileFault::CannotBeRead)
 }
 
-/// Reads all of a dump (`None`: no window). More than 2^22 pulses are a fault of the dump, and more
-/// than 2^28 bytes `TooLong`: 2^28 + 1 are read then. `shorter` makes `Parts` of what is read.
+/// Reads all of a dump, of at most 2^28 bytes and 2^22 pulses.
 pub fn read_whole<R: Read + Drop>(
     alloc: Global,
     mut reader: R,
@@ -162,8 +149,7 @@ pub fn read_whole<R: Read + Drop>(
     }
 }
 
-/// Reads a dump from a reader, and keeps as much of it as `extent` says. If it is `TooLong`, one
-/// byte more is read than it may have.
+/// Reads a dump, and keeps as much of it as `extent` says.
 pub fn read_extent<R: Read + Drop>(
     alloc: Global,
     mut reader: R,
@@ -178,8 +164,7 @@ pub fn read_extent<R: Read + Drop>(
     read_by_parts(alloc, &mut reader, &mut part, wire, extent)
 }
 
-/// Reads a dump part by part, keeps as much of it as `extent` says, and counts all bytes. `part` is
-/// the memory for one part. After a fault of the file, what was read is freed (`let_go`).
+/// The same in parts, for which `part` is the memory.
 fn read_by_parts<R: Read>(
     alloc: Global,
     reader: &mut R,
@@ -205,8 +190,7 @@ fn read_by_parts<R: Read>(
     }
 }
 
-/// Reads the dump in the file at a path. If it has more than 2^28 bytes: `TooLong`; one more byte
-/// is read then, none if its size shows it. If nothing is at the path: `CannotBeRead`.
+/// Reads the dump in the file at a path; nothing of it, if its size shows that it is too long.
 pub fn read_dump<R: Files>(
     rt: &R,
     alloc: Global,
@@ -219,7 +203,6 @@ pub fn read_dump<R: Files>(
     read_open(alloc, file, wire)
 }
 
-/// Reads a dump from an open file; `TooLong`, unread, if its size shows more than 2^28 bytes.
 fn read_open<F: OpenFile + Read + Drop>(
     alloc: Global,
     file: F,
@@ -233,9 +216,7 @@ fn read_open<F: OpenFile + Read + Drop>(
     read_whole(alloc, file, wire)
 }
 
-/// Reads the dump in the file at a path, and keeps as much of it as `extent` says. The size of the
-/// file is not looked at: the bytes are counted as they are read. If nothing is at the path:
-/// `CannotBeRead`.
+/// Reads the dump in the file at a path. Its size is not looked at: the bytes are counted.
 pub fn read_dump_extent<R: Files>(
     rt: &R,
     alloc: Global,

@@ -1,6 +1,4 @@
-//! A shelf that is a file. A shelf is where the commands `write` and `save` of the editor write the
-//! text of the track. A `Disk` is the files by their paths. A ghost item is for contracts alone: it
-//! is nothing in the program.
+//! A shelf that is a file.
 
 ghost use Rattle.std.specs.Prelude.{◌≡◌, ◌∷◌, IsTrue, refl};
 ghost use Rattle.std.proofs.Common.{◌∙◌};
@@ -12,22 +10,18 @@ use crate::disk::Disk;
 use crate::room::Room;
 use irig_text::{Shelf, ShelfFault, Text};
 
-/// A shelf that is a file: each write replaces the regular file at a path whole, or writes in place
-/// to anything else that is there.
+/// Each write replaces the regular file at a path whole, or writes in place to anything else.
 #[derive(Drop)]
 pub struct FileShelf<'d, 'p, D: Disk> {
     disk: &'d mut D,
     path: &'p str,
-    // The memory of each write.
     room: &'d mut Room,
-    // How many writes failed, up to 2^64 - 1. The contracts of a shelf name this count; the program
-    // does not use it.
+    // How many writes failed, up to 2^64 - 1: for the contracts alone.
     failures: u64,
 }
 
 impl<'d, 'p, D: Disk> FileShelf<'d, 'p, D> {
-    /// The shelf of the file at a path, which does not have to be there. `room` is the memory that
-    /// each write uses.
+    /// The shelf of the file at a path, which does not have to be there.
     pub fn new(disk: &'d mut D, path: &'p str, room: &'d mut Room) -> FileShelf<'d, 'p, D>
         ensures same_disk { result.disk.ghost_name ≡ disk.entry.ghost_name }
         ensures disk { result.disk.now ≡ disk.old }
@@ -74,8 +68,6 @@ impl<'d, 'p, D: Disk> Shelf for FileShelf<'d, 'p, D> {
           mid.path.now first.0.0 (first.1 told) (then.1 told),
     ) };
 
-    // Writes a text to the file, and returns how many bytes it has. A fault says only that the
-    // write failed; it is counted, as the contracts of a shelf demand.
     fn put<T: Text>(&mut self, text: &mut T) -> Result<u64, ShelfFault> {
         match self.disk.put(self.path, text, self.room) {
             Ok(written) => Ok(written.count()),

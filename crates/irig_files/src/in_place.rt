@@ -1,6 +1,4 @@
-//! A text written to what is no regular file: a pipe, a device, the standard output. It is not
-//! replaced, so a fault can leave a front of the text there. A `ShelfFault` says only that the text
-//! was not written whole.
+//! A text written to what is no regular file: a pipe, a device, the standard output.
 
 ghost use Rattle.std.specs.Prelude.{◌≡◌, ◌+◌, ◌++◌, ℕ, List, [], true, length, IfOk, OnOk};
 ghost use Rattle.std.specs.Io.KnownBytes.{Appends};
@@ -15,7 +13,7 @@ pub struct InPlace {
 }
 
 impl InPlace {
-    /// How many bytes the text has.
+    /// In bytes.
     pub fn count(&self) -> u64
         ensures { result ≡ self.now.count }
     {
@@ -23,10 +21,8 @@ impl InPlace {
     }
 }
 
-/// Writes all of a text, block by block, and returns how many bytes it has. `block` is the memory
-/// for one block; what it holds before is lost. `Err` if a write fails, memory runs out, or the
-/// text has more than 2^64 - 1 bytes; a front of the text may be written then. The loop has a bound
-/// so that it is sure to end.
+/// Writes all of a text, block by block; `block` is the memory for one, and what it holds is lost.
+/// After an error a front of the text may be written.
 pub fn write_in_place<F: Write, T: Text>(
     file: &mut F,
     text: &mut T,
@@ -42,14 +38,12 @@ pub fn write_in_place<F: Write, T: Text>(
             return Ok(InPlace { count });
         }
     }
-    // no text has that many blocks
+    // No text has that many blocks.
     Err(ShelfFault)
 }
 
-/// Writes the next block of a text, adds the number of its bytes to `count`, and returns whether it
-/// was the last one. A block that is not the last has at least `ENOUGH` bytes, 64 KiB. `Err` if
-/// memory runs out, the write fails, or the text so far has more than 2^64 - 1 bytes, which is seen
-/// before the write.
+/// Writes the next block, of at least `ENOUGH` bytes (64 KiB) but for the last; returns whether it
+/// is the last. Too many bytes are seen before they are written.
 fn write_next<F: Write, T: Text>(
     file: &mut F,
     text: &mut T,

@@ -1,10 +1,4 @@
-//! The dump in a file, as far as it is taken in. A `DumpReader` (irig_vcd) reads its parts; an
-//! `Extent` says how much of it is kept: a window, which is a part of the time of the dump, or all;
-//! at most 2^22 pulses, or 2^26 of a long recording. Reading has two faults: the outer one,
-//! `DumpFileFault`, is that memory runs out or the dump is too long, the inner one, `VcdFault`,
-//! that the dump is wrong. In contracts, `HasTaken` says which bytes of a dump are taken so far,
-//! `Takes` which more are, and `HasBytes n` that the text of the journal, if there is one, has at
-//! most n bytes.
+//! The dump in a file, as far as it is taken in.
 
 ghost use Rattle.std.specs.Prelude.{◌≡◌, ◌≢◌, ◌≤◌, ◌<◌, ◌⊎◌, [], ℕ, List, Option, None, Ok, Err};
 ghost use Rattle.std.specs.Prelude.{◌^◌, IfOk, IfErr, IsOk, IsErrOf, OnOk, OnErr, length, min};
@@ -21,21 +15,18 @@ use irig_vcd::{DumpReader, Extent, VcdFault};
 use std::alloc::{AllocError, Global};
 use std::mem;
 
-/// What a dump says of a wire, and the text of the journal that it carries, if it has one.
+/// A recording of a wire, and the text of the journal that the dump carries, if it has one.
 pub type Parts = (Recording, Option<Vec<u8>>);
 
-/// The same, with as many pulses as an `Extent` allows.
+/// The same of a long recording.
 pub type LongParts = (LongRecording, Option<Vec<u8>>);
 
-/// The most bytes of a dump: 2^28, this project's own bound.
+/// Bytes of a dump, at most: 2^28, this project's own bound.
 pub const DUMP_LIMIT: usize = 268_435_456;
 
-/// The most bytes of a dump, if a window of it is read or a long recording: 2^47, this project's
-/// own bound. No file has more, and all counts of bytes stay exact.
+/// The same for a window or a long recording: no file has more, and all counts of bytes stay exact.
 const LONG_LIMIT: usize = 1 << 47;
 
-/// The most bytes that a dump may have, by how much of it is kept: 2^47 if that is a window of it,
-/// or a long recording; else 2^28.
 fn most_bytes(extent: Extent) -> usize
     ensures { result ≡ extent_bytes extent }
 {
@@ -46,22 +37,17 @@ fn most_bytes(extent: Extent) -> usize
     }
 }
 
-/// The dump in a file, as far as it is taken in.
 #[derive(Drop)]
 pub struct Intake {
-    /// The reader of its parts; or the fault that it found, and then more bytes are only counted.
+    /// The reader, or the fault that it found: then bytes are only counted.
     dump: Result<DumpReader, VcdFault>,
-    /// How many bytes are still taken. It begins with one more than a dump may have, so 0 means
-    /// that the dump is too long. `IsCounted` says that no byte is missing from this count.
+    /// Bytes that are still taken. It begins with one more than a dump may have, so 0 is too long.
     left: usize,
-    /// How much of it is kept.
     extent: Extent,
 }
 
 impl Intake {
-    /// The intake of a dump of which no byte is taken yet. `wire` is the name of the wire to read;
-    /// if none is given, the dump has to have one wire of one bit. It fails only if memory runs
-    /// out.
+    /// The intake of a dump, before its first byte.
     pub fn new(alloc: Global, wire: Option<&[u8]>, extent: Extent) -> Result<Intake, AllocError>
         ensures taken { IfOk result (HasTaken (name_of wire.entry) []) }
         ensures counted { IfOk result IsCounted }
@@ -74,17 +60,15 @@ impl Intake {
         })
     }
 
-    /// How many bytes may be taken next, at most: those that are still taken, but not more than
-    /// there is room for (`room` bytes). 0 if no more are taken.
+    /// How many bytes may be taken next, with room for `room`.
     pub fn wanted(&self, room: usize) -> usize
         ensures { result ≡ min self.now.left room }
     {
         self.left.min(room)
     }
 
-    /// Takes the next part of the dump, which must have at most `wanted` bytes, so `left` does not
-    /// go below 0. A fault of the dump is kept for `end`. It fails only if memory runs out, and
-    /// then nothing is left of what was read.
+    /// Takes the next part. A fault of the dump is kept for `end`; out of memory, nothing is left
+    /// of what was read.
     pub fn put(&mut self, part: &[u8]) -> Result<(), DumpFileFault>
         requires wanted { length part.now ≤ self.old.left }
         requires counted { IsCounted self.old }
@@ -94,26 +78,22 @@ impl Intake {
         ensures memory { IfErr result (λ fault. fault ≡ file.OutOfMemory) }
     {
         self.left -= part.len();
-        // `reader.put` takes the reader away and gives it back, so a fault is in its place until
-        // then. If memory runs out, `?` returns here, and that fault stays.
+        // `reader.put` takes the reader away, so a fault is there until it comes back; if memory
+        // runs out, that fault stays.
         let dump = match mem::replace(&mut self.dump, Err(VcdFault::OutOfMemory)) {
             Ok(reader) => unless_short(reader.put(part))?,
             Err(fault) => Err(fault),
         };
-        // What comes out is the fault that was in place of the reader.
         let_go(mem::replace(&mut self.dump, dump));
         Ok(())
     }
 
-    /// Frees what is taken in. It is called instead of `end` if the read ends with a fault of the
-    /// file. To drop it would do the same; the proof of a call is shorter.
+    /// Frees what is taken in, after a fault of the file.
     pub fn let_go(self) {
         let_go(self.dump);
     }
 
-    /// What the dump says, if nothing comes after its parts. `TooLong` if it has more bytes than a
-    /// dump may have, whatever else is wrong with it; `OutOfMemory` if memory runs out. The inner
-    /// fault is of the dump.
+    /// What the dump says, if nothing comes after its parts.
     pub fn end(self) -> Result<Result<LongParts, VcdFault>, DumpFileFault>
         requires counted { IsCounted self }
         ensures read { IfOk result (λ read. (wire : Option (List ℕ)) (bytes : List ℕ)
@@ -124,8 +104,7 @@ impl Intake {
         ensures long { IsErrOf result file.TooLong → self.left ≡ 0 }
         ensures fault { IfErr result (λ fault. ((fault ≡ file.TooLong) × (self.left ≡ 0))
             ⊎ ((fault ≡ file.OutOfMemory) × (0 < self.left) × IsOk self.dump)) }
-        // The reader holds the declarations until they are whole, and has no unit of time before. A
-        // fault of declarations that it still holds is reported, even if memory runs out.
+        // The reader holds the declarations until they are whole, and has no unit of time before.
         ensures heading { (wire : Option (List ℕ)) (bytes : List ℕ) (e : VcdFault)
             → HasTaken wire bytes self → IfOk self.dump (λ reader. reader.unit ≡ None)
             → 0 < self.left → e ≢ OutOfMemory
@@ -141,11 +120,10 @@ impl Intake {
     }
 }
 
-/// Frees a reader, or a fault: the value is moved in here, and its end is the end of this call.
+/// Its argument ends with this call; the proof of a call is shorter than that of a drop.
 fn let_go(_dump: Result<DumpReader, VcdFault>) {}
 
-/// What is read of a recording, of which the caller knows that it has at most 2^22 pulses, so 2^23
-/// edges: as a `Recording`, which holds no more. A fault stays as it is.
+/// What is read of a recording that is short enough, as a `Recording`.
 pub fn shorter(read: Result<LongParts, VcdFault>) -> Result<Parts, VcdFault>
     requires few { IfOk read (λ x. length x.0.edges ≤ 2 ^ 23) }
     ensures { result ≡ read }
@@ -156,8 +134,7 @@ pub fn shorter(read: Result<LongParts, VcdFault>) -> Result<Parts, VcdFault>
     }
 }
 
-/// Sorts the faults of a read. That memory ran out (is short) becomes an outer fault, one of the
-/// file; every other fault stays an inner one, of the dump.
+/// Out of memory is a fault of the file; every other one is of the dump.
 fn unless_short<T: Drop>(read: Result<T, VcdFault>) -> Result<Result<T, VcdFault>, DumpFileFault>
     ensures same { IfOk result (λ given. (given ≡ read) × (given ≢ Err OutOfMemory)) }
     ensures memory { IfErr result (λ fault. fault ≡ file.OutOfMemory) }

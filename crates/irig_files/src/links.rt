@@ -1,5 +1,4 @@
-//! Where a chain of symbolic links leads. A `ShelfFault` says only that a call failed, memory ran
-//! out, or there were too many links. `system` makes the single calls on paths.
+//! Where a chain of symbolic links leads.
 
 ghost use Rattle.std.specs.Prelude.{◌≡◌, None, Some, true, false, IfOk, IsTrue, OnOk};
 ghost use Rattle.std.specs.Path.{path_buf_bytes};
@@ -9,13 +8,10 @@ use crate::file_system::FileSystem;
 use irig_text::ShelfFault;
 use std::path::PathBuf;
 
-/// How many times a path is looked at: 40 symbolic links, as many as Linux follows, and the end,
-/// where no link is.
+/// 40 symbolic links, the limit of Linux, and the end, where no link is.
 const TURNS: u32 = 41;
 
-/// Follows the chain of symbolic links from a path, and leaves in `target` the path where it ends:
-/// the path itself, if no link is there. `Err` if there are more than 40 links, a call fails, or
-/// memory runs out.
+/// Follows the symbolic links from a path; `target` becomes the path at their end.
 pub fn follow_links<C: FileSystem>(
     system: &C,
     path: &str,
@@ -38,9 +34,7 @@ pub fn follow_links<C: FileSystem>(
     Err(ShelfFault)
 }
 
-/// Follows one link: if a symbolic link is at the target, the target becomes the path that it leads
-/// to, and the answer is `true`. `false`: there is no link, or nothing, so the target is the end.
-/// `Err` if the system does not say what is there, or memory runs out.
+/// Follows one link, if one is there; else the answer is `false`.
 fn follow_link<C: FileSystem>(system: &C, target: &mut PathBuf) -> Result<bool, ShelfFault>
     ensures end { IsTrue C.is_told → IfOk result (λ is_link. is_link ≡ false
         → (C.link_at system.now (path_buf_bytes target.old) ≡ None)
@@ -58,9 +52,8 @@ fn follow_link<C: FileSystem>(system: &C, target: &mut PathBuf) -> Result<bool, 
     }
 }
 
-/// Makes the target the path that a link there leads to; `next` is the text of the link. The text
-/// counts from the folder of the link, or from the root if it begins with a slash. Returns `true`:
-/// there was a link. It fails only if memory runs out.
+/// The target becomes the path that `next`, the text of a link, names: from its folder, or from the
+/// root.
 fn go_to(target: &mut PathBuf, next: &str) -> Result<bool, ShelfFault>
     ensures link { IfOk result (λ is_link. is_link ≡ true) }
     ensures to { OnOk result

@@ -1,5 +1,4 @@
-//! The files of the system, as a program makes them when it starts. A runtime is what a program has
-//! of the system: its files, its standard output and its memory.
+//! The files of the system, as a program makes them when it starts.
 
 ghost use Rattle.std.specs.Prelude.{◌≡◌, IfOk};
 
@@ -8,9 +7,8 @@ use irig_disk::{SystemDir, SystemFolder};
 use std::alloc::AllocError;
 use std::rt::Files as FileRuntime;
 
-/// The files of the system that a runtime (`rt`) gives. A write hands paths to the system: those of
-/// two names, and that of the folder that it opens. The memory for them is taken here, so that a
-/// write later asks for none. It fails only if memory runs out.
+/// Memory for the paths that a write hands to the system is taken here, so that a write asks for
+/// none.
 pub fn system_files<R: FileRuntime + Print + AllocGlobal>(
     rt: &R,
 ) -> Result<Files<SystemFolder<'_, R>>, AllocError>

@@ -1,12 +1,4 @@
-//! Writes a text to what a path leads to. The room is the memory of a write: the block holds the
-//! parts of the text, and the target the path of the file that is replaced. A text is written to a
-//! new file first, which then takes the target's name; its stem is its name without the number at
-//! the end. `Written` says how a text was written, `Kept` that each crash from then on leaves it. A
-//! `ShelfFault` says only that a write failed, so the errors of calls are not handed on. `system`
-//! makes the single calls on paths. In a contract, `paths` of a disk is the place of the regular
-//! file, or of none yet, that a path leads to; it is `None` if the path leads to anything else, or
-//! to what the program's answers go to: `is_other` says that it does. `is_told` says whether the
-//! contracts know what is there.
+//! Writes a text to what a path leads to.
 
 ghost use Rattle.std.specs.Prelude.{◌≡◌, ℕ, List, length, None, Some, IfOk, IsTrue, ◌≢◌, IsErr};
 ghost use Rattle.std.specs.Prelude.{IsOk, OnErr, OnOk, false, true};
@@ -27,12 +19,8 @@ use irig_text::{ShelfFault, Text};
 use std::io::Write;
 use std::path::Path;
 
-/// Writes a text to what a path leads to: a regular file, or none yet, is replaced whole; what the
-/// program's answers go to, and any other file, is written in place. `dir` is the place for the
-/// folder that is opened. `way_to` finds which of these it is, and leaves the path to be replaced,
-/// at the end of its links, in the room's target. After a fault a file that was to be replaced has
-/// its old text; or the new one, if only the last sync failed. What is written in place may have a
-/// front of the text then.
+/// `way_to` finds how, and leaves the path to be replaced in the room's target. `dir` is the place
+/// for the folder that is opened.
 pub fn put_file<C: FileSystem, T: Text>(
     system: &mut C,
     dir: &mut C::Dir,
@@ -58,8 +46,6 @@ pub fn put_file<C: FileSystem, T: Text>(
     }
 }
 
-/// Writes a text in place to what is at a path and is no regular file. `Err` if it cannot be
-/// opened, or did not take all of the text.
 fn put_other<C: FileSystem, T: Text>(
     system: &C,
     path: &str,
@@ -75,8 +61,6 @@ fn put_other<C: FileSystem, T: Text>(
     }
 }
 
-/// Writes a text to what is open and is no regular file, or is what the answers go to. `Err` if it
-/// did not take all of the text, or memory ran out.
 fn in_place<F: Write, T: Text>(
     file: &mut F,
     text: &mut T,
@@ -90,12 +74,9 @@ fn in_place<F: Write, T: Text>(
     }
 }
 
-/// Replaces the regular file at the room's target, or none yet, by a new one with this mode
-/// (`None`: the usual one). `way_to` has put the path into the target. The folder is opened before
-/// anything is written: without a sync of it no crash is sure to keep the new name. A target
-/// without a name at its end, as `..`, is a fault; `is_name` says whether a name is not empty, has
-/// no `/`, and is neither `.` nor `..`. `Err` also if the folder cannot be opened, memory runs out,
-/// or the write fails.
+/// Replaces the file at the room's target by one with this mode (`None`: the usual one). The folder
+/// is opened first: without its sync no crash is sure to keep the new name. A target that ends in
+/// no name, as `..`, is a fault.
 fn replace<C: FileSystem, T: Text>(
     system: &mut C,
     dir: &mut C::Dir,
@@ -129,7 +110,6 @@ fn replace<C: FileSystem, T: Text>(
     whole(write_whole(system, dir, file_name, name, stem, mode, text, block))
 }
 
-/// The outcome of a write that replaces a file, as `Written`: whole, or the fault.
 fn whole(outcome: Result<Kept, ShelfFault>) -> Result<Written, ShelfFault>
     ensures count { (n : ℕ) → IfOk outcome (λ kept. kept.count ≡ n)
         → IfOk result (λ written. count_of written ≡ n) }
@@ -142,13 +122,10 @@ fn whole(outcome: Result<Kept, ShelfFault>) -> Result<Written, ShelfFault>
     }
 }
 
-/// Puts into `stem` what the names of new files begin with; a number of at most four digits comes
-/// after it. A dot hides them, and `.irig_ed-new-` shows whose they are. The target's `name` is
-/// left out if it has more than 200 bytes, so that room is left for the rest: with 200 bytes the
-/// new name has at most 1 (the dot) + 200 + 13 (`.irig_ed-new-`) + 4 (the number), which is 218. It
-/// fails only if memory runs out.
+/// What the names of new files begin with: a dot hides them. The target's `name` is left out above
+/// 200 bytes: a new name has then at most 1 + 200 + 13 + 4 bytes.
 fn put_stem(name: &str, stem: &mut String) -> Result<(), ShelfFault> {
-    // a folder takes no name of more than 255 bytes
+    // A folder takes no name of more than 255 bytes.
     let kept = if name.len() <= 200 { name } else { "" };
     stem.clear();
     match write!(stem, ".{kept}.irig_ed-new-") {
@@ -157,8 +134,7 @@ fn put_stem(name: &str, stem: &mut String) -> Result<(), ShelfFault> {
     }
 }
 
-/// The folder of a path, without the last name. It is `.`, the current one, if the path is a name
-/// alone, or has no folder, as `/`.
+/// The folder of a path; `.` if it is a name alone, or has no folder, as `/`.
 pub fn folder_of(target: &str) -> &str
     ensures { result.now ≡ folder_of target.now }
 {

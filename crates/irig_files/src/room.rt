@@ -1,5 +1,4 @@
-//! The memory of a write: a text is written to a new file first, which then takes the name of the
-//! one that it replaces.
+//! The memory of a write.
 
 ghost use Rattle.std.specs.Prelude.{◌≡◌, ◌≤◌, ◌+◌, [], IfOk, string_capacity};
 ghost use Rattle.std.specs.{Path.path_buf_cap, Vec.vec_capacity};
@@ -9,9 +8,8 @@ use irig_text::new_block;
 use std::alloc::{AllocError, Global};
 use std::path::PathBuf;
 
-/// How many bytes a path or a name has room for. A path of the system has at most 4,095 bytes, and
-/// so has the text of a link: a path made of a folder and such a text has no more than twice as
-/// many and a slash.
+/// Bytes of a path or a name: a folder and the text of a link have at most 4,095 each, with a
+/// slash.
 const NAME: usize = 8192;
 
 /// What a write needs memory for. It is made once, so no write asks for more.
@@ -23,14 +21,12 @@ pub struct Room {
     pub target: PathBuf,
     /// The name of a new file, but for its number.
     pub stem: String,
-    /// The name of a new file.
     pub name: String,
 }
 
 impl Room {
-    /// Room for any number of writes, one after another. `new_block` gives a block with no bytes,
-    /// and with room for 64 KiB (`ENOUGH`) and 2,048 bytes more: the part that is added last may go
-    /// past 64 KiB, and has no more bytes than these. It fails only if memory runs out.
+    /// Room for any number of writes. The last part added to a block may go past 64 KiB (`ENOUGH`),
+    /// by at most 2,048 bytes.
     pub fn new(alloc: Global) -> Result<Room, AllocError>
         ensures empty { IfOk result (λ room. room.block.items ≡ []) }
         ensures block { IfOk result (λ room. ENOUGH + 2048 ≤ vec_capacity room.block) }

@@ -1,5 +1,4 @@
-//! Whether two paths lead to one regular file. `system` makes the single calls on paths. A
-//! `ShelfFault` says only that one of them failed.
+//! Whether two paths lead to one regular file.
 
 ghost use Rattle.std.specs.Prelude.{◌≡◌, IfOk, IsTrue, false, true};
 ghost use Rattle.irig_files.specs.Apart.{AreApart, HasId, LeadToOneFile};
@@ -7,9 +6,7 @@ ghost use Rattle.irig_files.specs.Apart.{AreApart, HasId, LeadToOneFile};
 use crate::file_system::FileSystem;
 use irig_text::ShelfFault;
 
-/// Whether two paths lead to one regular file, by the numbers that no other file has: false if one
-/// leads to none, or to what is no regular file. `Err` if the system does not say what is there,
-/// for one of them or both.
+/// The same by the numbers of both; false if one leads to no regular file.
 pub fn is_same_file<C: FileSystem>(system: &C, one: &str, other: &str) -> Result<bool, ShelfFault>
     ensures apart { IsTrue C.is_told → IfOk result (λ same. same ≡ false
         → AreApart (C.disk system.now) one.now other.now) }
@@ -23,8 +20,7 @@ pub fn is_same_file<C: FileSystem>(system: &C, one: &str, other: &str) -> Result
     }
 }
 
-/// The numbers that no other file has, of the regular file that a path leads to; `None` if nothing
-/// is there, or no regular file. `Err` if the system does not say what is there.
+/// The numbers of the regular file that a path leads to.
 fn file_id<C: FileSystem>(system: &C, path: &str) -> Result<Option<(u64, u64)>, ShelfFault>
     ensures { IsTrue C.is_told → IfOk result
         (HasId (C.disk system.now) (C.id_of system.now) path.now) }

@@ -1,9 +1,4 @@
-//! How a text is written to what a path leads to: a regular file is replaced whole by a new one,
-//! anything else is written in place. A `ShelfFault` says only that the text cannot be written.
-//! `system` makes the single calls on paths; a `Described` is what it says of a file. In a
-//! contract, `paths` of a disk is the place of the regular file, or of none yet, that a path leads
-//! to; it is `None` if the path leads to anything else, or to what the program's answers go to:
-//! `is_other` says that it does. `is_told` says whether the contracts know what is there.
+//! How a text is written to what a path leads to.
 
 ghost use Rattle.std.specs.Prelude.{◌≡◌, ◌≢◌, None, Some, IfOk, IsTrue, MatchOption, false, true};
 ghost use Rattle.std.specs.Path.{path_buf_bytes};
@@ -15,26 +10,23 @@ use crate::links::follow_links;
 use irig_text::ShelfFault;
 use std::path::PathBuf;
 
-/// The bits of a mode that a new file takes from the one that it replaces: who may read, write and
-/// run it. Who writes the file becomes its owner, so a bit that lets others act as the owner, or as
-/// the group, must not come along.
+/// Who may read, write and run it. Whoever writes the new file owns it, so a bit that lets others
+/// act as owner or group must not come along.
 const PERMISSIONS: u32 = 0o777;
 
-/// How a text is written to what a path leads to.
+/// A way to write a text.
 #[derive(Drop)]
 pub enum Way {
     /// The regular file, or none yet, is replaced by one of this mode; `None`: of the usual one.
     Replaced(Option<u32>),
-    /// The program's answers go there, too: the text is written in place, to their output.
+    /// The program's answers go there, too.
     Output,
-    /// It is no regular file: the text is written in place.
+    /// It is no regular file.
     Other,
 }
 
-/// Finds how a text is written to a path. If the file there, or none yet, is to be replaced,
-/// `target` gets the path at the end of its links, since the link has to stay; else the caller does
-/// not use what `target` holds. `Err` if the system does not say what is there, there are too many
-/// links, or the file must not be written.
+/// Finds how; if a file is to be replaced, `target` gets the path at the end of its links, since a
+/// link has to stay.
 pub fn way_to<C: FileSystem>(
     system: &C,
     path: &str,
@@ -51,12 +43,8 @@ pub fn way_to<C: FileSystem>(
     }
 }
 
-/// Finds how a text is written to a path that leads to `old`, which is there. `Output` if `old` is
-/// what the program's answers go to, also if that is a regular file: after a replacement later
-/// answers would go to the old file. `Replaced` if it is any other regular file, and then `target`
-/// gets its path. Else `Other`. `system.output` gives the numbers of what the answers go to, and
-/// `id` those of `old`; no two files have the same. `Err` if the system does not give them, or as
-/// `replaced` says. What the clauses require of `old` is what `describe` says of it.
+/// The same for a path that leads to `old`, of which the clauses require what `describe` says. The
+/// output's file is not replaced, since later answers would go to the old one.
 fn way_over<C: FileSystem>(
     system: &C,
     path: &str,
@@ -81,10 +69,7 @@ fn way_over<C: FileSystem>(
     }
 }
 
-/// The way `Replaced` of a path that leads to a regular file (`is_there` is true) or to none yet;
-/// the caller knows which. The target gets the path at the end of its links. `Err` as
-/// `follow_links` and `mode_to_take` have it: there are too many links, memory runs out, the system
-/// does not say what is there, or the file must not be written.
+/// The way `Replaced` of a path that leads to a regular file (`is_there`) or to none yet.
 fn replaced<C: FileSystem>(
     system: &C,
     path: &str,
@@ -106,11 +91,8 @@ fn replaced<C: FileSystem>(
     }
 }
 
-/// The mode that the new file takes: the permissions of the regular file at the target, or `None`,
-/// the usual mode, if none is there (`is_there` is false). The system would replace a file that
-/// must not be written, too; so the file is opened as if to write first, and if that fails, it is
-/// not replaced. `Err` also if the target is no longer a regular file, or the system does not
-/// describe it.
+/// The permissions of the regular file at the target. A replacement does not need a file that may
+/// be written, so it is first opened as if to write.
 fn mode_to_take<C: FileSystem>(
     system: &C,
     is_there: bool,

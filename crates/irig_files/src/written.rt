@@ -9,14 +9,14 @@ use irig_disk::Kept;
 /// A text was written to a file of the system.
 #[derive(Drop)]
 pub enum Written {
-    /// The file was replaced by a new one, and each crash from then on leaves the text.
+    /// Each crash from then on leaves the text.
     Whole(Kept),
     /// What is no regular file, or is what the answers go to, took all of the text.
     InPlace(InPlace),
 }
 
 impl Written {
-    /// How many bytes the text has.
+    /// Bytes of the text.
     pub fn count(&self) -> u64
         ensures { result ≡ count_of self.now }
     {
