@@ -1,11 +1,4 @@
-//! Writes lines of changes in the form of a saved journal, which is the history of a session as
-//! text; `docs/FORMATS.md` has the form.
-//!
-//! Each function adds to the end of `text`, and fails only if memory runs out. After a failure
-//! `text` can end with a part of what was to be added. `put_word`, `put_number` and `put_numbers`
-//! write a space before each word. `put_numbered` and `put_formatted` write a whole line: a first
-//! word and other words. `put_lettered` writes the first word of a line and a letter. A splice
-//! replaces pulses by others. Pulses count from 1, letters from 0; times are in microseconds.
+//! Writes lines of changes in the form of a saved journal.
 
 ghost use Rattle.std.specs.Prelude.{◌≡◌, ◌++◌, ◌<◌, ◌∷◌, [], OnOk, codes, decimal};
 ghost use Rattle.std.specs.Fmt.{signed_decimal};
@@ -24,9 +17,7 @@ use irig_track::Pulse;
 use itoa::Buffer;
 use std::alloc::AllocError;
 
-/// Writes the first line of a change, with its newline, by the function for its kind (`put_splice`
-/// and so on). Only a splice has more lines, one for each pulse that it inserts. They are not
-/// written here: `put_pulse` writes one of them.
+/// Writes the first line of a change; `put_pulse` writes the others that a splice has.
 pub fn put_single(text: &mut Vec<u8>, single: &Single) -> Result<(), AllocError>
     ensures { OnOk result (text.new.items
         ≡ text.old.items ++ (single_line single.now ++ 10 ∷ [])) }
@@ -40,8 +31,7 @@ pub fn put_single(text: &mut Vec<u8>, single: &Single) -> Result<(), AllocError>
     }
 }
 
-/// Writes the first line of a splice, `splice AT COUNT K`: `at` is the first pulse that goes,
-/// `count` how many go, and `put` how many come.
+/// `splice AT COUNT K`: `at` is the first pulse that goes, `count` go, and `put` come.
 fn put_splice(text: &mut Vec<u8>, at: u64, count: u64, put: u64) -> Result<(), AllocError>
     ensures { OnOk result (text.new.items
         ≡ text.old.items ++ (numbered (codes "splice") (at ∷ count ∷ put ∷ []) ++ 10 ∷ [])) }
@@ -49,8 +39,7 @@ fn put_splice(text: &mut Vec<u8>, at: u64, count: u64, put: u64) -> Result<(), A
     put_numbered(text, b"splice", &[at, count, put])
 }
 
-/// Writes the line of a pulse that a splice inserts: its rise and its fall, two times with a space
-/// between. The rise is given to `put_numbered` as the first word of the line.
+/// Writes the line of a pulse that a splice inserts: its rise and its fall.
 pub fn put_pulse(text: &mut Vec<u8>, pulse: Pulse) -> Result<(), AllocError>
     ensures { OnOk result (text.new.items ≡ text.old.items ++ (pulse_line pulse ++ 10 ∷ [])) }
 {
@@ -59,7 +48,7 @@ pub fn put_pulse(text: &mut Vec<u8>, pulse: Pulse) -> Result<(), AllocError>
     put_numbered(text, rise, &[pulse.fall])
 }
 
-/// Writes the line of a toggle, `toggle A B`: it inverts the level from time `a` to time `b`.
+/// `toggle A B`.
 fn put_toggle(text: &mut Vec<u8>, a: u64, b: u64) -> Result<(), AllocError>
     ensures { OnOk result (text.new.items
         ≡ text.old.items ++ (single_line (Toggle a b) ++ 10 ∷ [])) }
@@ -67,9 +56,7 @@ fn put_toggle(text: &mut Vec<u8>, a: u64, b: u64) -> Result<(), AllocError>
     put_numbered(text, b"toggle", &[a, b])
 }
 
-/// Writes the line of a shift, `shift I J D MARKS`. The pulses `i` to `j`, both included, move by
-/// `by` microseconds (below 0 is earlier). With them move the marks of the letters that are true in
-/// `marks`: MARKS are these letters, or `-` if there are none.
+/// `shift I J D MARKS`: the pulses `i` to `j`, both included, and marks move by `by` microseconds.
 fn put_shift(text: &mut Vec<u8>, i: u64, j: u64, by: i64, marks: &Letters) -> Result<(), AllocError>
     ensures { OnOk result (text.new.items
         ≡ text.old.items ++ (single_line (Shift i j by marks.now) ++ 10 ∷ [])) }
@@ -80,8 +67,7 @@ fn put_shift(text: &mut Vec<u8>, i: u64, j: u64, by: i64, marks: &Letters) -> Re
     Ok(())
 }
 
-/// Writes the front of the line of a shift, `shift I J D`: the pulses `i` to `j`, and by how many
-/// microseconds they move. No newline is written: the letters of the marks come next.
+/// The front of this line, without the marks.
 fn put_shifted(text: &mut Vec<u8>, i: u64, j: u64, by: i64) -> Result<(), AllocError>
     ensures { OnOk result (text.new.items ≡ text.old.items
         ++ line (codes "shift") (decimal i ∷ decimal j ∷ signed_decimal by ∷ [])) }
@@ -92,12 +78,11 @@ fn put_shifted(text: &mut Vec<u8>, i: u64, j: u64, by: i64) -> Result<(), AllocE
     put_word(text, buffer.format(by).as_bytes())
 }
 
-/// Writes a space and the letters of the marks that move, in the order a to z without spaces
-/// between, or `-` if no mark moves.
+/// A space and the letters of the marks that move, a to z, or `-` if none does.
 fn put_moved(text: &mut Vec<u8>, marks: &Letters) -> Result<(), AllocError>
     ensures { OnOk result (text.new.items ≡ text.old.items ++ 32 ∷ moved_word marks.now) }
 {
-    // Each letter occurs at most once, so 26 bytes suffice; the first `count` of them are in use.
+    // Each letter occurs at most once, so 26 bytes suffice.
     let mut letters = [0; 26];
     let mut count = 0;
     for letter in 0..26 {
@@ -112,8 +97,7 @@ fn put_moved(text: &mut Vec<u8>, marks: &Letters) -> Result<(), AllocError>
     put_word(text, &letters[..count])
 }
 
-/// Writes the line that sets a format, `setformat X N`: its kind of time code, such as `B`, and the
-/// number of its coded expression, 0 to 7.
+/// `setformat X N`.
 fn put_set_format(text: &mut Vec<u8>, kind: Kind, expression: u8) -> Result<(), AllocError>
     ensures { OnOk result (text.new.items
         ≡ text.old.items ++ (single_line (SetFormat kind expression) ++ 10 ∷ [])) }
@@ -121,9 +105,7 @@ fn put_set_format(text: &mut Vec<u8>, kind: Kind, expression: u8) -> Result<(), 
     put_formatted(text, b"setformat", kind, expression)
 }
 
-/// Writes the line that sets a mark to a time, `setmark x TIME`. If `time` is `None` it is the line
-/// that clears the mark, `setmark x -`. `letter` is the place of x in the alphabet, from 0 (a) to
-/// 25.
+/// `setmark x TIME`, or `setmark x -`, which clears the mark; `letter` is from 0 (a) to 25.
 fn put_set_mark(text: &mut Vec<u8>, letter: u8, time: Option<u64>) -> Result<(), AllocError>
     requires { letter < 26 }
     ensures { OnOk result (text.new.items
@@ -135,7 +117,7 @@ fn put_set_mark(text: &mut Vec<u8>, letter: u8, time: Option<u64>) -> Result<(),
     Ok(())
 }
 
-/// Writes a space and the time in microseconds; a space and `-` if `time` is `None`.
+/// A space and a time in microseconds, or a space and `-`.
 fn put_time(text: &mut Vec<u8>, time: Option<u64>) -> Result<(), AllocError>
     ensures { OnOk result (text.new.items ≡ text.old.items ++ 32 ∷ time_word time) }
 {

@@ -1,17 +1,4 @@
-//! Reads lines of a saved journal, which is the history of a session as text.
-//!
-//! Each function reads a line, or the rest of one, without its newline. It answers `None` if the
-//! line has another form than that of `docs/FORMATS.md`. Words have one space between them. `head`
-//! is the first word of a line; it has no space in it (`IsWordy`). `word_of` gives the first word
-//! of a text and what is after the space that ends it, `None` if there is no space. `number` gives
-//! the number that a word is in decimal, below 2^64, else `None`.
-//!
-//! A splice replaces pulses by others, a toggle inverts the level between two times, a shift moves
-//! pulses and marks. Pulses count from 1; times are in microseconds. Only the form is judged here,
-//! not whether a change is possible. `Decodes` in a contract: the answer is the value that is
-//! written as this line, or `None` if there is no such value.
-//!
-//! Where `let .. else` hands `None` on, `?` would do the same; the proof of it takes longer.
+//! Reads lines of a saved journal, of which only the form is judged.
 
 ghost use Rattle.std.specs.Prelude.{◌≡◌, ◌<◌, ◌+◌, ◌++◌, ◌∷◌, [], ℕ, List, MatchOption, decimal};
 ghost use Rattle.std.specs.Prelude.{codes};
@@ -31,8 +18,7 @@ use crate::words::{distance, expression, moved, number, time};
 use irig_codes::{Kind, kind_named};
 use irig_track::Pulse;
 
-/// What comes in a line after its first word, `head`, and a space. `None` if the line does not
-/// begin with this word and a space.
+/// What comes in a line after its first word, `head`, and a space.
 fn behind<'a>(head: &[u8], text: &'a [u8]) -> Option<&'a [u8]>
     requires { IsWordy head.now }
     ensures { MatchOption result ((rest : List ℕ) → text.now ≡ head.now ++ 32 ∷ rest → ⊥)
@@ -44,7 +30,7 @@ fn behind<'a>(head: &[u8], text: &'a [u8]) -> Option<&'a [u8]>
     if first == head { Some(rest) } else { None }
 }
 
-/// The number in a line of two words, `head` and a number. `None` for any other line.
+/// The number in a line of two words, `head` and a number.
 pub fn counted(head: &[u8], text: &[u8]) -> Option<u64>
     requires { IsWordy head.now }
     ensures { Decodes IsNumber (λ n. numbered head.now (n ∷ [])) text.now result }
@@ -55,9 +41,7 @@ pub fn counted(head: &[u8], text: &[u8]) -> Option<u64>
     number(word)
 }
 
-/// The format in a line of three words: `head`, a kind of time code, such as `B`, and the number of
-/// a coded expression, 0 to 7. `None` for any other line. Whether the kind permits the expression
-/// is not judged here.
+/// The format in a line of three words: `head`, a kind such as `B`, and an expression, 0 to 7.
 pub fn format(head: &[u8], text: &[u8]) -> Option<(Kind, u8)>
     requires { IsWordy head.now }
     ensures { Decodes IsFormat (λ f. line head.now (words_of_format f)) text.now result }
@@ -66,9 +50,7 @@ pub fn format(head: &[u8], text: &[u8]) -> Option<(Kind, u8)>
     Some((kind_named(name)?, expression(rest)?))
 }
 
-/// The time, in microseconds, in a line `mark x TIME`, if x is the letter of `letter_byte`. `None`
-/// for any other line, also for that of another letter. The letter is given as its byte in a text,
-/// `a` to `z`; the contract asks only for a byte that is a visible character, above the space.
+/// The time in a line `mark x TIME`, if x is this letter, `a` to `z`.
 pub fn mark(letter_byte: u8, text: &[u8]) -> Option<u64>
     requires { (32 < letter_byte) × (letter_byte < 127) }
     ensures { Decodes IsNumber
@@ -82,8 +64,7 @@ pub fn mark(letter_byte: u8, text: &[u8]) -> Option<u64>
     }
 }
 
-/// The number in the first word of a text, and what is after the space that ends this word. `None`
-/// if the first word is no number, or no space ends it.
+/// The number in the first word of a text, and what is after the space that ends this word.
 fn leading(text: &[u8]) -> Option<(u64, &[u8])>
     ensures { MatchOption result
         ((n : ℕ) (rest : List ℕ) → IsNumber n → text.now ≡ decimal n ++ 32 ∷ rest → ⊥)
@@ -98,7 +79,7 @@ fn leading(text: &[u8]) -> Option<(u64, &[u8])>
     }
 }
 
-/// The two numbers in a text of two numbers with a space between. `None` for any other text.
+/// The two numbers in a text of two numbers with a space between.
 fn pair(text: &[u8]) -> Option<(u64, u64)>
     ensures { Decodes AreTwo (λ t. numbered (decimal t.0) (t.1 ∷ [])) text.now result }
 {
@@ -111,8 +92,7 @@ fn pair(text: &[u8]) -> Option<(u64, u64)>
     }
 }
 
-/// The pulse in a line `RISE FALL`: a splice has one such line for each pulse that it inserts.
-/// `None` for any other line. Whether the rise is before the fall is not judged here.
+/// The pulse in a line `RISE FALL`.
 pub fn pulse(text: &[u8]) -> Option<Pulse>
     ensures { Decodes IsPulse pulse_line text.now result }
 {
@@ -122,9 +102,7 @@ pub fn pulse(text: &[u8]) -> Option<Pulse>
     Some(Pulse { rise, fall })
 }
 
-/// The three numbers in a line `splice AT COUNT K`, which is the first line of a splice. They are
-/// the first pulse that goes, how many go, and how many come. `None` for any other line. The pulses
-/// that come are in the lines after this one.
+/// The numbers in a line `splice AT COUNT K`; the pulses that come are in the lines after it.
 pub fn splice(text: &[u8]) -> Option<(u64, u64, u64)>
     ensures { Decodes AreThree (λ t. line (codes "splice") (words_of_three t)) text.now result }
 {
@@ -140,10 +118,8 @@ pub fn splice(text: &[u8]) -> Option<(u64, u64, u64)>
     }
 }
 
-/// The change in a line, if it is one of those that have one line: a toggle, a shift, or the
-/// setting of a format or of a mark. `None` for any other line, also for the first one of a splice
-/// or a group. The lines of the four kinds begin with different words, so the order of the tests
-/// does not matter.
+/// The change in a line, if it is of a kind that has one line. The kinds begin with different
+/// words, so the order of the tests does not matter.
 pub fn short(text: &[u8]) -> Option<Single>
     ensures { Decodes IsShort single_line text.now result }
 {
@@ -160,7 +136,7 @@ pub fn short(text: &[u8]) -> Option<Single>
     Some(Single::Shift { i, j, by, marks })
 }
 
-/// The begin and the end of a toggle, two times, in a line `toggle A B`. `None` for any other line.
+/// The two times in a line `toggle A B`.
 fn toggle(text: &[u8]) -> Option<(u64, u64)>
     ensures { Decodes AreTwo (λ t. line (codes "toggle") (words_of_two t)) text.now result }
 {
@@ -170,9 +146,7 @@ fn toggle(text: &[u8]) -> Option<(u64, u64)>
     pair(words)
 }
 
-/// The letter and the time in a line `setmark x TIME`, which sets a mark. In `setmark x -`, which
-/// clears the mark, the time is `None`: the function `time` answers `Some(None)` for the word `-`.
-/// The whole answer is `None` for any other line.
+/// What a line `setmark x TIME` says; the time is `None` in `setmark x -`.
 fn set_mark(text: &[u8]) -> Option<(Letter, Option<u64>)>
     ensures { Decodes IsMark (λ t. line (codes "setmark") (words_of_mark t)) text.now result }
 {
@@ -180,10 +154,7 @@ fn set_mark(text: &[u8]) -> Option<(Letter, Option<u64>)>
     Some((Letter::named(name)?, time(rest)?))
 }
 
-/// What a line `shift I J D MARKS` says: the first and the last pulse that move, by how many
-/// microseconds (below 0 is earlier), and the marks that move with these pulses. MARKS are the
-/// letters of these marks, or `-` if no mark moves (`move_in` reads D and MARKS). `None` for any
-/// other line.
+/// What a line `shift I J D MARKS` says.
 fn shift(text: &[u8]) -> Option<(u64, u64, i64, Letters)>
     ensures { Decodes IsShift (λ t. line (codes "shift") (words_of_shift t)) text.now result }
 {
@@ -200,9 +171,7 @@ fn shift(text: &[u8]) -> Option<(u64, u64, i64, Letters)>
     Some((i, j, by, marks))
 }
 
-/// What the last two words of the line of a shift say: a distance in microseconds, below 0 to
-/// earlier times, and the marks that move by this distance; `-` says that no mark moves. `None` if
-/// the text is not two such words.
+/// The last two words of this line: a distance, and the marks that move; `-` says that none does.
 fn move_in(text: &[u8]) -> Option<(i64, Letters)>
     ensures { Decodes IsMove
         (λ t. line (signed_decimal t.0) (moved_word t.1 ∷ [])) text.now result }

@@ -1,9 +1,4 @@
-//! The lines of the pulses that a splice inserts, as a saved journal has them, given in parts. A
-//! splice is a change that replaces pulses by others. A journal is the history of a session as
-//! text; each of these lines is a rise and a fall. A block is a buffer of the caller, to which each
-//! call adds lines.
-//!
-//! Where `match` hands an error on, `?` would do the same; the proof of it takes longer.
+//! The lines of the pulses that a splice inserts, given in parts.
 
 ghost use Rattle.std.specs.Prelude.{◌≡◌, ◌≤◌, ◌<◌, ◌++◌, [], IfOk, OnOk, false, true, vec_len};
 ghost use Rattle.irig_saved.specs.{Lines.text_of, SavedText.pulse_lines, SavedText.put_of};
@@ -14,8 +9,7 @@ use crate::single::Single;
 use std::alloc::AllocError;
 use std::marker::Model;
 
-/// The lines that are still to be given: one for each pulse of `pulses` from index `next` on, from
-/// 0. `pulses` is `None` if the change is no splice; then there are no lines.
+/// A line for each pulse from index `next` on, from 0; none if the change is no splice.
 #[derive(Drop)]
 pub(crate) struct PulseLines<'s> {
     pulses: Option<&'s Pulses>,
@@ -32,7 +26,7 @@ impl<'s> Model for PulseLines<'s> {
 }
 
 impl<'s> PulseLines<'s> {
-    /// No lines: `fill` adds none.
+    /// No lines.
     pub(crate) fn none() -> PulseLines<'s>
         ensures { result ≡ [] }
     {
@@ -42,7 +36,7 @@ impl<'s> PulseLines<'s> {
         }
     }
 
-    /// A line for each pulse that a splice inserts; no lines for a change of another kind.
+    /// A line for each pulse that a splice inserts.
     pub(crate) fn of(single: &'s Single) -> PulseLines<'s>
         ensures { result ≡ text_of (pulse_lines (put_of single.now)) }
     {
@@ -55,11 +49,8 @@ impl<'s> PulseLines<'s> {
         }
     }
 
-    /// Adds whole lines to a block until it has `enough` bytes or no line is left; the next call
-    /// continues after the last of them. Returns `true` if no line is left and the block has fewer
-    /// bytes than `enough`, so that more text can be added; `false` if the block has `enough`,
-    /// whether a line is left or not. It fails only if memory runs out; then the block can end with
-    /// a part of a line, and nothing is said of the lines that are left.
+    /// Adds whole lines to a block until it has `enough` bytes (`false`) or no line is left
+    /// (`true`).
     pub(crate) fn fill(&mut self, block: &mut Vec<u8>, enough: usize) -> Result<bool, AllocError>
         ensures bytes { OnOk result (block.new.items ++ self.new ≡ block.old.items ++ self.old) }
         ensures end { IfOk result (λ ended. ended ≡ true → self.new ≡ []) }

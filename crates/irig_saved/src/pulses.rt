@@ -1,9 +1,4 @@
-//! Pulses in a list that can be exchanged with those of a track. The list is a `Gap`, a gap buffer:
-//! a list with a place, at which items are put in and taken out. Its capacity is how many items it
-//! has room for. A splice replaces pulses of a track by others. In a contract `micros` is the
-//! length of a track in microseconds, and `spare` how many places it has free.
-//!
-//! What is marked "Read for .." does nothing: it only lets the proof use what a type promises.
+//! Pulses in a list that can be exchanged with those of a track.
 
 ghost use Rattle.std.specs.Prelude.{◌≡◌, ◌≤◌, ◌<◌, ◌+◌, ◌*◌, ◌++◌, ◌∷◌, [], OnOk, OnErr, Some};
 ghost use Rattle.std.specs.Prelude.{length, slice_get};
@@ -15,9 +10,8 @@ use std::alloc::{AllocError, Global};
 use std::marker::Model;
 use std::mem;
 
-/// Pulses that a splice inserts. Their buffer grows by half each time that it is full, and only for
-/// pulses that were read: no number in a text makes it take memory. So it has at most half as many
-/// free places as pulses, plus one. The place of the buffer is after the last pulse.
+/// Pulses that a splice inserts. Their buffer grows by half, and only for pulses that were read, so
+/// it has at most half as many free places as pulses, plus one. Its place is after the last pulse.
 #[derive(Drop)]
 pub struct Pulses {
     items: Gap<Pulse>,
@@ -37,7 +31,7 @@ impl Model for Pulses {
 }
 
 impl Pulses {
-    /// No pulses. It takes no memory.
+    /// An empty list; it takes no memory.
     pub fn new(alloc: Global) -> Pulses
         ensures { result ≡ [] }
     {
@@ -46,9 +40,7 @@ impl Pulses {
         }
     }
 
-    /// The pulses of a buffer, in its order. The buffer must have at most half as many free places
-    /// as pulses, plus one (`tight`): this bound holds of each `Pulses`. The place of the buffer is
-    /// moved to the end, so that `push` adds there.
+    /// The pulses of a buffer that keeps this bound (`tight`).
     pub fn of(mut items: Gap<Pulse>) -> Pulses
         requires tight { 2 * items.capacity ≤ 3 * length items.items + 2 }
         ensures { result ≡ items.items }
@@ -57,14 +49,13 @@ impl Pulses {
         Pulses { items }
     }
 
-    /// How many pulses there are.
     pub fn len(&self) -> usize
         ensures { result ≡ length self.now }
     {
         self.items.len()
     }
 
-    /// The pulse at `index`, from 0. The index must be below `len`.
+    /// The pulse at `index`, from 0.
     pub fn get(&self, index: usize) -> Pulse
         requires { index < length self.now }
         ensures { slice_get self.now index ≡ Some result }
@@ -72,7 +63,7 @@ impl Pulses {
         self.items.get(index)
     }
 
-    /// Adds a pulse after the last. If memory runs out, nothing changes.
+    /// Adds a pulse after the last.
     pub fn push(&mut self, pulse: Pulse) -> Result<(), AllocError>
         ensures pushed { OnOk result (self.new ≡ self.old ++ pulse ∷ []) }
         ensures unchanged { OnErr result (self.new ≡ self.old) }
@@ -83,8 +74,7 @@ impl Pulses {
         Ok(())
     }
 
-    /// The buffer of the pulses, to be read. It has at most half as many free places as pulses,
-    /// plus one.
+    /// The buffer of the pulses, to be read.
     pub fn as_gap(&self) -> &Gap<Pulse>
         ensures items { result.now.items ≡ self.now }
         ensures tight { 2 * result.now.capacity ≤ 3 * length self.now + 2 }
@@ -92,14 +82,9 @@ impl Pulses {
         &self.items
     }
 
-    /// Replaces the `count` pulses of a track from `at` on, from 0, by the pulses of `self`.
-    /// Afterwards `self` has the pulses that went, so a second call puts them back. The caller has
-    /// tested that the track permits the splice, and made room in it for the pulses that come.
-    ///
-    /// This takes no memory. `taken` is a spare buffer. It comes in empty, with places for the
-    /// pulses that go, but no more free places than a `Pulses` may have; it becomes the buffer of
-    /// `self`. It goes out as the former buffer of `self`, which is empty then. The `Span` has
-    /// `at`, and how many pulses went and came.
+    /// Replaces the `count` pulses of a track from `at` on, from 0, by these, and keeps those that
+    /// went. This takes no memory: `taken` comes in as an empty buffer with places for them, and
+    /// goes out as the former buffer, empty.
     pub fn exchange(
         &mut self,
         track: &mut Track,
@@ -124,7 +109,7 @@ impl Pulses {
         ensures spanned { IsSpan result.at result.old result.new track.old.pulses
             track.new.pulses }
     {
-        // Read for how many places the buffer has; the answer is not used.
+        // Read for how many places the buffer has.
         let _held = self.items.len();
         let span = track.splice(at, count, &mut self.items, taken);
         // `splice` emptied `self.items` into the track and filled `taken` with those that went.

@@ -1,4 +1,4 @@
-//! A change that is no group. A group is several changes that one undo reverses.
+//! A change that is no group.
 
 ghost use Rattle.std.specs.Prelude.{◌≡◌, ◌<◌, ◌^◌, length};
 ghost use Rattle.irig_saved.specs.SavedText.{single_lines};
@@ -7,8 +7,7 @@ use crate::letter::{Letter, Letters};
 use crate::pulses::Pulses;
 use irig_codes::Kind;
 
-/// One change of a session. Pulses count from 1; times are in microseconds. Whether it can be made
-/// on a track is not judged here.
+/// One change of a session; whether a track permits it is not judged here.
 #[derive(Drop)]
 pub enum Single {
     /// Removes `count` pulses from `at` on, and inserts the pulses `put` there.
@@ -22,15 +21,14 @@ pub enum Single {
         a: u64,
         b: u64,
     },
-    /// Moves the pulses `i` to `j`, both included, by `by` microseconds (below 0 is earlier), and
-    /// the marks that are true in `marks`.
+    /// Moves the pulses `i` to `j`, both included, by `by` microseconds, with these marks.
     Shift {
         i: u64,
         j: u64,
         by: i64,
         marks: Letters,
     },
-    /// Sets a format. Whether the kind permits the expression is not judged here.
+    /// Sets a format.
     SetFormat {
         kind: Kind,
         expression: u8,
@@ -43,9 +41,7 @@ pub enum Single {
 }
 
 impl Single {
-    /// How many lines the change has in the text of a saved journal, the history of a session: one,
-    /// and a splice one more for each pulse that it inserts. The contract asks for less than 2^63
-    /// lines, so the sum does not overflow.
+    /// Lines in the text of a journal; a splice has one for each pulse that it inserts, too.
     pub(crate) fn lines(&self) -> usize
         requires { length (single_lines self.now) < 2 ^ 63 }
         ensures { result ≡ length (single_lines self.now) }

@@ -1,7 +1,4 @@
-//! The lines of a change, as a saved journal has them, given in parts. A journal is the history of
-//! a session as text. A block is a buffer of the caller, to which each call adds lines.
-//!
-//! Where `match` hands an error on, `?` would do the same; the proof of it takes longer.
+//! The lines of a change, given in parts.
 
 ghost use Rattle.std.specs.Prelude.{◌≡◌, ◌≤◌, ◌<◌, ◌++◌, [], IfOk, OnOk, false, true, vec_len};
 ghost use Rattle.irig_saved.specs.{Lines.text_of, SavedText.single_lines};
@@ -12,8 +9,7 @@ use crate::single::Single;
 use std::alloc::AllocError;
 use std::marker::Model;
 
-/// The lines that are still to be given of a change that is no group. `first` is the change if its
-/// first line is one of them; `pulses` has the lines of the pulses that it inserts.
+/// Lines that are still to be given; `first` is the change if its first line is one of them.
 #[derive(Drop)]
 pub struct SingleLines<'s> {
     first: Option<&'s Single>,
@@ -30,7 +26,7 @@ impl<'s> Model for SingleLines<'s> {
 }
 
 impl<'s> SingleLines<'s> {
-    /// No lines: `fill` adds none.
+    /// No lines.
     pub fn none() -> SingleLines<'s>
         ensures { result ≡ [] }
     {
@@ -40,8 +36,7 @@ impl<'s> SingleLines<'s> {
         }
     }
 
-    /// All lines of a change that is no group: its first line, and those of the pulses that it
-    /// inserts if it is a splice.
+    /// All lines of a change that is no group.
     pub fn of(single: &'s Single) -> SingleLines<'s>
         ensures { result ≡ text_of (single_lines single.now) }
     {
@@ -51,15 +46,9 @@ impl<'s> SingleLines<'s> {
         }
     }
 
-    /// Adds whole lines to a block until it has `enough` bytes or no line is left; the next call
-    /// continues after the last of them. The first line of a change is added even if the block has
-    /// `enough`; it has at most 96 bytes: `shift`, three numbers of up to 20 bytes, 26 letters, 4
-    /// spaces and the newline.
-    ///
-    /// Returns `true` if no line is left and the block has fewer bytes than `enough`, so that more
-    /// text can be added; `false` if the block has `enough`, whether a line is left or not. It
-    /// fails only if memory runs out; then the block can end with a part of a line, and nothing is
-    /// said of the lines that are left.
+    /// The same as of `PulseLines`, but the first line of a change is added even to a full block.
+    /// It has at most 96 bytes: `shift`, three numbers of 20 bytes, 26 letters, 4 spaces and the
+    /// newline.
     pub fn fill(&mut self, block: &mut Vec<u8>, enough: usize) -> Result<bool, AllocError>
         ensures bytes { OnOk result (block.new.items ++ self.new ≡ block.old.items ++ self.old) }
         ensures end { IfOk result (λ ended. ended ≡ true → self.new ≡ []) }

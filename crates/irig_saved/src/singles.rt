@@ -1,5 +1,4 @@
-//! Changes of one group, in the order in which they are made. A group is several edits that one
-//! undo reverses. A saved journal is the history of a session as text.
+//! The changes of one group.
 
 ghost use Rattle.std.specs.Prelude.{◌≡◌, ◌<◌, ◌^◌, ◌++◌, ◌∷◌, [], OnOk, OnErr, length};
 ghost use Rattle.irig_saved.specs.SavedText.{singles_lines};
@@ -24,7 +23,7 @@ impl Model for Singles {
 }
 
 impl Singles {
-    /// A list of no changes. It takes no memory.
+    /// An empty list.
     pub fn new(alloc: Global) -> Singles
         ensures { result ≡ [] }
     {
@@ -33,14 +32,13 @@ impl Singles {
         }
     }
 
-    /// The changes, in order.
     pub fn as_slice(&self) -> &[Single]
         ensures { result.now ≡ self.now }
     {
         self.items.as_slice()
     }
 
-    /// Adds a change after the last. If memory runs out, nothing changes.
+    /// Adds a change after the last.
     pub fn push(&mut self, single: Single) -> Result<(), AllocError>
         ensures pushed { OnOk result (self.new ≡ self.old ++ single ∷ []) }
         ensures unchanged { OnErr result (self.new ≡ self.old) }
@@ -49,15 +47,13 @@ impl Singles {
         Ok(())
     }
 
-    /// The changes as a `Vec`, in order, for a caller that needs them one by one.
     pub fn into_vec(self) -> Vec<Single>
         ensures { result.items ≡ self }
     {
         self.items
     }
 
-    /// How many lines the changes have together in the text of a saved journal. The contract asks
-    /// for less than 2^63, so the sum does not overflow.
+    /// How many lines they have in the text of a journal.
     pub(crate) fn lines(&self) -> usize
         requires { length (singles_lines self.now) < 2 ^ 63 }
         ensures { result ≡ length (singles_lines self.now) }

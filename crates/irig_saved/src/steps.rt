@@ -1,6 +1,4 @@
-//! Steps of a saved journal, in the order of its text: those back with the oldest first, those
-//! forward with the next redo first. A step is a change, or a group of them, and the cursor of the
-//! state that it leads to. A journal is the history of a session as text.
+//! Steps of a saved journal, in the order of its text.
 
 ghost use Rattle.std.specs.Prelude.{◌≡◌, ◌<◌, ◌^◌, ◌++◌, ◌∷◌, [], OnOk, OnErr, MatchOption, length};
 ghost use Rattle.std.specs.Prelude.{reverse};
@@ -10,7 +8,7 @@ use crate::step::SavedStep;
 use std::alloc::{AllocError, Global};
 use std::marker::Model;
 
-/// Steps in the order of the text of a journal.
+/// Those back with the oldest first, those forward with the next redo first.
 #[derive(Drop)]
 pub struct Steps {
     items: Vec<SavedStep>,
@@ -26,7 +24,7 @@ impl Model for Steps {
 }
 
 impl Steps {
-    /// A list of no steps. It takes no memory.
+    /// An empty list.
     pub fn new(alloc: Global) -> Steps
         ensures { result ≡ [] }
     {
@@ -35,21 +33,19 @@ impl Steps {
         }
     }
 
-    /// How many steps there are.
     pub fn len(&self) -> usize
         ensures { result ≡ length self.now }
     {
         self.items.len()
     }
 
-    /// The steps, in order.
     pub fn as_slice(&self) -> &[SavedStep]
         ensures { result.now ≡ self.now }
     {
         self.items.as_slice()
     }
 
-    /// Adds a step after the last. If memory runs out, nothing changes.
+    /// Adds a step after the last.
     pub fn push(&mut self, step: SavedStep) -> Result<(), AllocError>
         ensures pushed { OnOk result (self.new ≡ self.old ++ step ∷ []) }
         ensures unchanged { OnErr result (self.new ≡ self.old) }
@@ -58,7 +54,7 @@ impl Steps {
         Ok(())
     }
 
-    /// Removes the last step and returns it; `None` if there is no step.
+    /// Removes the last step.
     pub fn pop(&mut self) -> Option<SavedStep>
         ensures { MatchOption result ((self.old ≡ []) × (self.new ≡ []))
             (λ step. self.old ≡ self.new ++ step ∷ []) }
@@ -66,15 +62,14 @@ impl Steps {
         self.items.pop()
     }
 
-    /// Puts the steps in the opposite order.
+    /// Reverses the order.
     pub fn reverse(&mut self)
         ensures { self.new ≡ reverse self.old }
     {
         self.items.reverse();
     }
 
-    /// How many lines the steps have together in the text of a saved journal. The contract asks for
-    /// less than 2^63, so the sum does not overflow.
+    /// How many lines these have in the text of a journal.
     pub fn lines(&self) -> usize
         requires { length (steps_lines self.now) < 2 ^ 63 }
         ensures { result ≡ length (steps_lines self.now) }

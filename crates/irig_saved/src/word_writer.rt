@@ -1,8 +1,4 @@
-//! Writes words of a line of a saved journal, which is the history of a session as text. The words
-//! of a line have one space between them.
-//!
-//! Each function adds to the end of `text`, and fails only if memory runs out. After a failure
-//! `text` can end with a part of what was to be added.
+//! Writes words of a line of a saved journal, with one space between them.
 
 ghost use Rattle.std.specs.Prelude.{◌≡◌, ◌+◌, ◌++◌, ◌<◌, ◌∷◌, [], OnOk, map, decimal};
 ghost use Rattle.irig_codes.specs.Words.{kind_word};
@@ -39,8 +35,7 @@ pub(crate) fn put_numbers(text: &mut Vec<u8>, numbers: &[u64]) -> Result<(), All
     Ok(())
 }
 
-/// Writes a whole line: the word `head`, each number after a space, and the newline. Without
-/// numbers the line is `head` alone.
+/// Writes a whole line: the word `head`, each number after a space, and the newline.
 pub(crate) fn put_numbered(
     text: &mut Vec<u8>,
     head: &[u8],
@@ -55,8 +50,7 @@ pub(crate) fn put_numbered(
     Ok(())
 }
 
-/// Writes the first two words of a line: `head`, and after a space a letter. `letter` is its place
-/// in the alphabet, from 0 (a) to 25. No newline is written: the caller adds more words.
+/// Writes the word `head`, and after a space a letter, 0 (a) to 25; no newline.
 pub(crate) fn put_lettered(text: &mut Vec<u8>, head: &[u8], letter: u8) -> Result<(), AllocError>
     requires { letter < 26 }
     ensures { OnOk result (text.new.items
@@ -66,8 +60,7 @@ pub(crate) fn put_lettered(text: &mut Vec<u8>, head: &[u8], letter: u8) -> Resul
     put_word(text, &[b'a' + letter])
 }
 
-/// Writes a whole line for a format: the word `head`, the kind of time code (such as `B`), the
-/// number of the coded expression (0 to 7), and the newline.
+/// Writes a whole line: the word `head`, a kind of time code and an expression.
 pub(crate) fn put_formatted(
     text: &mut Vec<u8>,
     head: &[u8],
