@@ -15,7 +15,7 @@ pub enum Base {
     Mark(Letter),
 }
 
-/// An address of a pulse: this many pulses after what it counts from, or before.
+/// This many pulses after what it counts from, or before.
 #[derive(Clone, Copy)]
 pub struct Address {
     pub base: Base,

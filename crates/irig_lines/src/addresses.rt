@@ -1,9 +1,4 @@
-//! Addresses, ranges and times of a script, read. A text that is none is a `BadLine`, the only
-//! error of a line. Pulses count from 1, and times are in microseconds. An address is what it
-//! counts from, its base, and an offset, a number of pulses, which may be below 0. The cursor is
-//! the pulse at which a script is. A mark is a time that has a letter as its name. `cut` parts a
-//! text before its first sign or comma. In contracts, `Finds P` says that an `Ok` has the property
-//! `P`, and that `BadLine` comes only if nothing has it.
+//! Addresses, ranges and times of a script, read.
 
 ghost use Rattle.std.specs.Prelude.{◌≡◌, ◌<◌};
 ghost use Rattle.irig_saved.specs.Letters.{letter_word};
@@ -19,15 +14,14 @@ use crate::range::Range;
 use crate::time::Time;
 use irig_saved::Letter;
 
-/// The letter of a mark, a to z, alone in a word; any other word is a `BadLine`.
+/// The letter of a mark, alone in a word.
 pub fn letter(word: &[u8]) -> Result<Letter, BadLine>
     ensures { Finds (λ l. (word.now ≡ letter_word l) × (l < 26)) result }
 {
     Letter::named(word).ok_or(BadLine)
 }
 
-/// A time: a number of microseconds, or an apostrophe and the letter of a mark, whose time it is.
-/// Any other word is a `BadLine`. Whether the mark is set is not tested here.
+/// A number of microseconds, or an apostrophe and the letter of a mark, set or not.
 pub fn time(word: &[u8]) -> Result<Time, BadLine>
     ensures { Finds (IsTime word.now) result }
 {
@@ -37,9 +31,7 @@ pub fn time(word: &[u8]) -> Result<Time, BadLine>
     }
 }
 
-/// What an address counts from: the text before its offset. It is `.` or no text, the cursor; `$`,
-/// the last pulse; an apostrophe and the letter of a mark; or the number of a pulse. Any other text
-/// is a `BadLine`. Whether the pulse is there and the mark is set is not tested here.
+/// What an address counts from: `.` or no text, `$`, an apostrophe and a letter, or a number.
 fn base(text: &[u8]) -> Result<Base, BadLine>
     ensures { Finds (IsBase text.now) result }
 {
@@ -51,9 +43,7 @@ fn base(text: &[u8]) -> Result<Base, BadLine>
     }
 }
 
-/// The offset of an address: the text from its sign on, or no text if it has no sign. No text is 0,
-/// and a sign alone is 1 or -1. After a sign anything but a number is a `BadLine`. So is a text
-/// that begins with no sign, but `address` passes no such text.
+/// The text of an address from its sign on: no text is 0, a sign alone is 1 or -1.
 fn offset(text: &[u8]) -> Result<i64, BadLine>
     ensures { Finds (IsOffset text.now) result }
 {
@@ -65,8 +55,7 @@ fn offset(text: &[u8]) -> Result<i64, BadLine>
     }
 }
 
-/// An address: a base and an offset, either of which may be missing, but not both. It is cut before
-/// its first plus or minus. An empty text is a `BadLine`, as is a bad base or offset.
+/// A base and an offset, either of which may be missing, but not both.
 pub fn address(text: &[u8]) -> Result<Address, BadLine>
     ensures { Finds (IsAddress text.now) result }
 {
@@ -80,15 +69,13 @@ pub fn address(text: &[u8]) -> Result<Address, BadLine>
     })
 }
 
-/// The address of a base without an offset: the offset is 0.
 fn at(base: Base) -> Address
     ensures { result ≡ at base }
 {
     Address { base, offset: 0 }
 }
 
-/// The address that a text is; that of the cursor if the text is empty. `BadLine` if it is neither
-/// empty nor an address.
+/// An empty text is the address of the cursor.
 pub fn address_or_cursor(text: &[u8]) -> Result<Address, BadLine>
     ensures { Finds (IsAddressOrCursor text.now) result }
 {
@@ -99,10 +86,7 @@ pub fn address_or_cursor(text: &[u8]) -> Result<Address, BadLine>
     }
 }
 
-/// A range: two addresses with a comma between them (`pair`), or one address. An empty text is the
-/// address of the cursor, and a comma alone is all pulses, `1,$`. If just one side of a comma is
-/// missing, or an address is bad, it is a `BadLine`. `rest` begins with the first comma, or is
-/// empty if there is none.
+/// Two addresses with a comma between them, or one; a comma alone is all pulses, `1,$`.
 pub fn range(text: &[u8]) -> Result<Range, BadLine>
     ensures { Finds (IsRange text.now) result }
 {
@@ -116,9 +100,6 @@ pub fn range(text: &[u8]) -> Result<Range, BadLine>
     }
 }
 
-/// The two addresses of a range: `first` is the text before its comma, `second` the text after it.
-/// If both texts are empty, they are those of the first pulse and the last. `BadLine` if just one
-/// text is empty, or one is no address.
 fn pair(first: &[u8], second: &[u8]) -> Result<(Address, Address), BadLine>
     ensures { Finds (λ p. IsPair first.now second.now p.0 p.1) result }
 {

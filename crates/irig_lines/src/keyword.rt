@@ -1,11 +1,10 @@
-//! The words that lines begin with. `found` looks a text up in a table of them.
+//! The words that lines begin with.
 
 ghost use Rattle.std.specs.Prelude.{◌≡◌};
 ghost use Rattle.irig_lines.specs.Keywords.{keyword_of};
 
 use crate::table::found;
 
-/// The word of a line.
 #[derive(Clone, Copy)]
 pub enum Keyword {
     /// There is none.
@@ -37,7 +36,7 @@ pub enum Keyword {
     Unknown,
 }
 
-/// The words of the language, each with what it means. An empty text is the word that is missing.
+/// An empty text is the word that is missing.
 static WORDS: [(&[u8], Keyword); 24] = [
     (b"", Keyword::Missing),
     (b"list", Keyword::List),
@@ -65,7 +64,6 @@ static WORDS: [(&[u8], Keyword); 24] = [
     (b"quit", Keyword::Quit),
 ];
 
-/// The word that a text is; `Missing` if the text is empty, `Unknown` if it is not a valid word.
 pub fn keyword_of(text: &[u8]) -> Keyword
     ensures { result ≡ keyword_of text.now }
 {

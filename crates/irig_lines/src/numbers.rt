@@ -1,6 +1,4 @@
-//! Numbers of a script. A text that is none is a `BadLine`, the only error of a line. Control
-//! functions are bits that a frame carries for any use. In contracts, `Finds P` says that an `Ok`
-//! has the property `P`, and that `BadLine` comes only if nothing has it.
+//! Numbers of a script.
 
 ghost use Rattle.std.specs.Prelude.{◌≡◌, ◌<◌, ◌^◌, IfOk};
 ghost use Rattle.irig_lines.specs.Findings.{Finds};
@@ -10,13 +8,13 @@ ghost use Rattle.irig_lines.specs.Numbers.{size, hex_digit};
 use crate::command::BadLine;
 use crate::cutting::is_sign;
 
-/// The most digits of a number in a script: so each number is below 2^63, with a sign too.
+/// Digits of a number, at most: so each is below 2^63, with a sign too.
 const DIGITS_LIMIT: usize = 18;
 
-/// The most hexadecimal digits of control functions: 48 bits, as no format has more than 45.
+/// Hexadecimal digits of control functions: 48 bits, as no format has more than 45.
 const CONTROL_LIMIT: usize = 12;
 
-/// The number that a word of 1 to 18 decimal digits is. Any other word is a `BadLine`.
+/// A number of 1 to 18 decimal digits.
 pub fn number(word: &[u8]) -> Result<u64, BadLine>
     ensures read { Finds (IsNumber word.now) result }
     ensures small { IfOk result (λ n. n < 10 ^ 18) }
@@ -34,15 +32,13 @@ pub fn number(word: &[u8]) -> Result<u64, BadLine>
     Ok(number)
 }
 
-/// Whether a byte is a decimal digit.
 fn is_digit(byte: u8) -> bool
     ensures { result ≡ is_digit byte }
 {
     matches!(byte, b'0'..=b'9')
 }
 
-/// The distance in microseconds that a word is: a number of 1 to 18 digits with an optional sign,
-/// plus or minus. Without a sign it is zero or above. Any other word is a `BadLine`.
+/// A distance in microseconds: such a number with an optional sign.
 pub fn distance(word: &[u8]) -> Result<i64, BadLine>
     ensures { Finds (IsDistance word.now) result }
 {
@@ -52,8 +48,7 @@ pub fn distance(word: &[u8]) -> Result<i64, BadLine>
     }
 }
 
-/// A number after a sign: below zero if `sign` is a minus. Any other byte counts as a plus. The
-/// number has to be below 2^63, so that it fits; one of 18 digits is.
+/// A number after a sign; any byte but a minus counts as a plus.
 pub fn signed(sign: u8, number: u64) -> i64
     requires { number < 2 ^ 63 }
     ensures sign { IsSigned sign result }
@@ -66,8 +61,7 @@ pub fn signed(sign: u8, number: u64) -> i64
     }
 }
 
-/// The control functions that a word of 1 to 12 hexadecimal digits is: the lowest bit is the first.
-/// Any other word is a `BadLine`.
+/// Control functions, of which the lowest bit is the first.
 pub fn control(word: &[u8]) -> Result<u64, BadLine>
     ensures { Finds (IsControl word.now) result }
 {
@@ -85,7 +79,7 @@ pub fn control(word: &[u8]) -> Result<u64, BadLine>
     Ok(number)
 }
 
-/// The hexadecimal digit that a byte is, of either case; 16 if it is none.
+/// 16 if the byte is no digit, of either case.
 fn hex_digit(byte: u8) -> u64
     ensures { result ≡ hex_digit byte }
 {

@@ -1,11 +1,4 @@
-//! Lines of a script as commands. A line is a range of pulses, a word and the arguments of the
-//! word. For each word that takes any of the others a function of its own says what it asks for, as
-//! `delete`. `cut` parts a text before the first byte that is no white space (`Text`). `BadLine`,
-//! the only error of a line, says that it is not valid. In contracts, `Finds P` says that an `Ok`
-//! has the property `P`, and that `BadLine` comes only if nothing has it. `Asks` says which command
-//! a word asks for, with the text before it and the words after it (`words_of`).
-//!
-//! Where `let Ok(..) else` returns `BadLine`, `?` would do the same; the proof of it takes longer.
+//! Lines of a script as commands.
 
 ghost use Rattle.std.specs.Prelude.{◌≡◌, ◌++◌, ◌&&◌, ◌||◌, not, ℕ, List, [], true, IfOk, OnErr};
 ghost use Rattle.irig_lines.specs.Commands.{Asks, IsAlone};
@@ -23,9 +16,7 @@ use crate::orders::{
 };
 use crate::words::{no_word, split_word};
 
-/// What a line asks for; `BadLine` if it is not valid. `line` has no newline. White space at its
-/// begin does not count. If what follows is empty or a comment, the line asks for `Nothing`
-/// (`is_nothing`).
+/// What a line without its newline asks for.
 pub fn parse_line(line: &[u8]) -> Result<Command, BadLine>
     ensures meant { IfOk result (λ command. Means command line.now) }
     ensures bad { OnErr result ((command : Command) → Means command line.now → ⊥) }
@@ -38,15 +29,13 @@ pub fn parse_line(line: &[u8]) -> Result<Command, BadLine>
     }
 }
 
-/// Whether a text asks for nothing: it is empty, or a comment, which begins with `#`.
 fn is_nothing(text: &[u8]) -> bool
     ensures { result ≡ is_nothing text.now }
 {
     matches!(text, [] | [b'#', ..])
 }
 
-/// What a text asks for, which is a range, a word and arguments; each of these may be missing. The
-/// text begins with no white space. `BadLine` if it is not valid (`asked`).
+/// What a text without white space at its begin asks for.
 fn in_text(text: &[u8]) -> Result<Command, BadLine>
     ensures { Finds (λ c. Orders c text.now) result }
 {
@@ -55,11 +44,8 @@ fn in_text(text: &[u8]) -> Result<Command, BadLine>
     asked(range, keyword_of(word), arguments)
 }
 
-/// Cuts a text into a range and what is after it: before the first white space or small letter,
-/// with which the word begins. A letter just after an apostrophe does not count, since it is the
-/// name of a mark. If the range is missing, the first part is empty; if nothing is after it, the
-/// second. A valid range that white space, a small letter or nothing follows is cut off whole
-/// (`cut`).
+/// Cuts a text before the first white space or small letter, with which a word begins. A letter
+/// just after an apostrophe is the name of a mark.
 fn split_range(text: &[u8]) -> (&[u8], &[u8])
     ensures whole { text.now ≡ result.0.now ++ result.1.now }
     ensures cut { (range : List ℕ) → (rest : List ℕ) → (r : Range) → text.now ≡ range ++ rest
@@ -75,19 +61,14 @@ fn split_range(text: &[u8]) -> (&[u8], &[u8])
     (&text[..at], &text[at..])
 }
 
-/// Whether a byte ends a range. White space always does. A small letter does unless `quoted` is
-/// true, which says that an apostrophe is just before the byte. No other byte does.
+/// `quoted`: an apostrophe is just before the byte.
 fn ends_range(quoted: bool, byte: u8) -> bool
     ensures { result ≡ (is_space byte || (not quoted && is_letter byte)) }
 {
     is_space(byte) || !quoted && byte.is_ascii_lowercase()
 }
 
-/// What a range (`front`), a word and the arguments after it ask for; `BadLine` if the word is
-/// `Unknown`, or the range or the arguments are not valid for it. `Missing` is no word: then there
-/// are no arguments, and the range is the address of a pulse to be shown. Each word that takes a
-/// range or arguments has its function in `orders`. The words that are not named here are those
-/// that are alone in a line (`asked_alone`).
+/// What a word asks for. `Missing` is no word: the range is the address of a pulse to be shown.
 fn asked(front: &[u8], word: Keyword, arguments: &[u8]) -> Result<Command, BadLine>
     ensures { Finds (Asks word front.now (words_of arguments.now)) result }
 {
@@ -110,8 +91,6 @@ fn asked(front: &[u8], word: Keyword, arguments: &[u8]) -> Result<Command, BadLi
     }
 }
 
-/// What a word asks for that takes neither a range nor an argument; `BadLine` if there is one of
-/// these. `word` has to be one of those that `alone` knows (`IsAlone`).
 fn asked_alone(front: &[u8], word: Keyword, arguments: &[u8]) -> Result<Command, BadLine>
     requires { IsAlone word }
     ensures { Finds (Asks word front.now (words_of arguments.now)) result }
@@ -125,8 +104,7 @@ fn asked_alone(front: &[u8], word: Keyword, arguments: &[u8]) -> Result<Command,
     Ok(alone(word))
 }
 
-/// What a word asks for that is alone in a line. The caller has found that it is one of those below
-/// or `quit` (`IsAlone`), so the last arm is `quit`.
+/// The last case is `quit`.
 fn alone(word: Keyword) -> Command
     requires { IsAlone word }
     ensures { Asks word [] [] result }

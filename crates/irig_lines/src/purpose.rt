@@ -5,29 +5,22 @@ ghost use Rattle.irig_lines.specs.Purposes.{purpose_of};
 
 use crate::command::Command;
 
-/// What a command is for.
 #[derive(Clone, Copy)]
 pub enum Purpose {
-    /// Nothing: a blank line, or a comment.
     Nothing,
     /// It edits the level.
     Edit,
-    /// It sets or clears a mark.
     Mark,
-    /// It sets the format in which frames are read.
     Format,
     /// It lists what is there; it can move the cursor.
     Question,
     /// It undoes or redoes a step, or opens or closes a group.
     Steps,
-    /// It writes a text.
     Text,
-    /// It ends the script.
     End,
 }
 
 impl Command {
-    /// What the command is for, as `Purpose` says of each kind of command.
     pub fn purpose(&self) -> Purpose
         ensures { result ≡ purpose_of self.now }
     {

@@ -7,6 +7,5 @@ use crate::address::Address;
 pub enum Range {
     /// One address: that pulse alone; for `join` that pulse and the next.
     One(Address),
-    /// From one pulse to another, both included.
     Two(Address, Address),
 }

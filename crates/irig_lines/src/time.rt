@@ -2,11 +2,9 @@
 
 use irig_saved::Letter;
 
-/// A time as a script writes it.
 #[derive(Clone, Copy)]
 pub enum Time {
     /// In microseconds.
     At(u64),
-    /// That of a mark.
     Mark(Letter),
 }

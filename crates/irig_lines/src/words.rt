@@ -1,6 +1,4 @@
-//! The words of a line, between white space. A text with more or fewer words than asked for is a
-//! `BadLine`, the only error of a line. `cut` parts a text before the first byte that is white
-//! space (`Blank`), or is none (`Text`).
+//! The words of a line, between white space.
 
 ghost use Rattle.std.specs.Prelude.{◌≡◌, ℕ, List, [], ◌∷◌, IfOk, OnOk, OnErr};
 ghost use Rattle.irig_lines.specs.Words.{words_of, word_and, before, onward};
@@ -9,8 +7,7 @@ ghost use Rattle.irig_lines.specs.declared.cutting.Until.TheVariants.{Blank, Tex
 use crate::command::BadLine;
 use crate::cutting::{Until, cut};
 
-/// The first word of a text, and what is after it, from the white space on. White space before it
-/// does not count. If there is no word, both are empty.
+/// The first word of a text, and what is after it, from the white space on; both can be empty.
 pub fn split_word(text: &[u8]) -> (&[u8], &[u8])
     ensures word { result.0.now ≡ before Blank (onward Text text.now) }
     ensures rest { result.1.now ≡ onward Blank (onward Text text.now) }
@@ -20,7 +17,7 @@ pub fn split_word(text: &[u8]) -> (&[u8], &[u8])
     cut(text, Until::Blank)
 }
 
-/// `Ok` if a text has no word: it is empty, or white space alone; else `BadLine`.
+/// `Ok` if a text has no word.
 pub fn no_word(text: &[u8]) -> Result<(), BadLine>
     ensures ok { OnOk result (words_of text.now ≡ []) }
     ensures err { OnErr result (words_of text.now ≡ [] → ⊥) }
@@ -33,7 +30,7 @@ pub fn no_word(text: &[u8]) -> Result<(), BadLine>
     }
 }
 
-/// The one word of a text. If the text has no word, or a second one, it is a `BadLine`.
+/// The one word of a text.
 pub fn one_word(text: &[u8]) -> Result<&[u8], BadLine>
     ensures ok { IfOk result (λ w. words_of text.now ≡ w.now ∷ []) }
     ensures err { OnErr result ((x : List ℕ) → words_of text.now ≡ x ∷ [] → ⊥) }
@@ -46,8 +43,7 @@ pub fn one_word(text: &[u8]) -> Result<&[u8], BadLine>
     Ok(word)
 }
 
-/// The two words of a text. If it has fewer or more, it is a `BadLine`. `one_word` finds the
-/// second.
+/// The two words of a text.
 pub fn two_words(text: &[u8]) -> Result<(&[u8], &[u8]), BadLine>
     ensures ok { IfOk result (λ w. words_of text.now ≡ w.0.now ∷ w.1.now ∷ []) }
     ensures err { OnErr result ((x : List ℕ) → (y : List ℕ) → words_of text.now ≡ x ∷ y ∷ [] → ⊥) }
