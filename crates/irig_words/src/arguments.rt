@@ -1,7 +1,4 @@
-//! The arguments of a command line, as `clap` takes them: each has a name by which its value is
-//! asked for later, and `help` says what it is for. In a contract, the rule of an argument is what
-//! `clap` accepts for it (`None` in it: any text is a value), and `global` would make it one of
-//! subcommands, too.
+//! The arguments of a command line, as `clap` takes them.
 
 ghost use Rattle.std.specs.Prelude.{◌≡◌, None, false};
 ghost use Rattle.clap.specs.Words.{rule_of};
@@ -10,7 +7,7 @@ ghost use Rattle.irig_words.specs.Arguments.{flag, needed, option};
 use clap::{Arg, ArgAction};
 use std::alloc::Global;
 
-/// An option `--name` with a value, which its help calls `value`. It can be left out.
+/// An option `--name` with a value, which its help calls `value`; it can be left out.
 pub fn option_arg<'a>(alloc: Global, name: &'a str, value: &'a str, help: &'a str) -> Arg<'a>
     ensures rule { rule_of result ≡ option name.entry.now None }
     ensures local { result.global ≡ false }
@@ -33,8 +30,7 @@ pub fn flag_arg<'a>(alloc: Global, name: &'a str, help: &'a str) -> Arg<'a>
         .action(ArgAction::SetTrue)
 }
 
-/// A word by itself, without an option's name, that has to be there: `clap` refuses a command line
-/// without it.
+/// A word by itself, without an option's name, that has to be there.
 pub fn needed_arg<'a>(alloc: Global, name: &'a str, help: &'a str) -> Arg<'a>
     ensures rule { rule_of result ≡ needed name.entry.now }
     ensures local { result.global ≡ false }

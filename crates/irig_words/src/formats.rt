@@ -1,6 +1,4 @@
-//! The format that the options `--format` and `--expression` name: a letter (A, B, E or G) and a
-//! digit, the coded expression, which says what the code carries. In a contract, `given` is the
-//! bytes of an option's value, if it has one.
+//! The format that the options `--format` and `--expression` name.
 
 ghost use Rattle.std.specs.Prelude.{◌≡◌, IfErr, IfOk};
 ghost use Rattle.irig_words.specs.Formats.{HasFormatFault, IsFormat, digit_named, given, text_or};
@@ -11,7 +9,6 @@ use thiserror::Error;
 /// An option of the format with a value that it cannot have.
 #[derive(Clone, Copy, Debug, Error)]
 pub enum FormatFault {
-    /// The letter of no format.
     #[error("--format: not A, B, E or G")]
     Format,
     /// No expression, or one that the format does not permit.
@@ -19,9 +16,8 @@ pub enum FormatFault {
     Expression,
 }
 
-/// The format with a letter and an expression. A letter that is not given is B, an expression that
-/// is not given is 2. An error says which of them is wrong, the letter first: `Expression` if it is
-/// no digit, or the format does not permit it, as E and G do not permit all of 0 to 7.
+/// The format with a letter, B if none is given, and an expression, 2 if none is given. The letter
+/// is tested first.
 pub fn format_named(letter: Option<&str>, number: Option<&str>) -> Result<Format, FormatFault>
     ensures format { IfOk result (IsFormat (given letter.entry) (given number.entry)) }
     ensures fault { IfErr result (HasFormatFault (given letter.entry) (given number.entry)) }
@@ -48,8 +44,7 @@ pub fn text_or<'a>(value: Option<&'a str>, other: &'a str) -> &'a [u8]
     }
 }
 
-/// The number of a text that is one digit, 0 to 9. `None` for any other text. Which digits a format
-/// permits is tested after that.
+/// One digit, 0 to 9; which of these a format permits is tested after that.
 fn digit_named(text: &[u8]) -> Option<u8>
     ensures { result ≡ digit_named text.now }
 {

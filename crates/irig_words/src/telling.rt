@@ -1,9 +1,4 @@
-//! What a program says of itself, and the statuses with which it ends. `rt` prints on the standard
-//! error; if that fails, nothing else can be said, so the failure is passed over. Status 2 is a
-//! mistake in the command line. In a contract, `contents` is what came to an output; `EndsWith`
-//! says that this is the status and no help was printed, `Helps` that the help was printed, or a
-//! front of it if the output fails, `IsHelp` that an error of `clap` asks for help, and `IsMistake`
-//! that it does not.
+//! What a program says of itself, and the statuses with which it ends.
 
 ghost use Rattle.std.specs.Prelude.{◌≡◌};
 ghost use Rattle.std.specs.Process.{exit_status};
@@ -23,19 +18,16 @@ use std::process::ExitCode;
 /// What a program says of itself.
 #[derive(Clone, Copy)]
 pub struct Program<'a> {
-    /// Its name, with which it begins what it says of faults.
+    /// With this it begins what it says of faults.
     pub name: &'a str,
-    /// Its help.
     pub help: &'a str,
-    /// The status with which it ends if its output fails.
+    /// With this it ends if its output fails.
     pub status: u8,
-    /// What it says then.
     pub fault: &'a str,
 }
 
 impl<'a> Program<'a> {
-    /// Says on the standard error, after the program's name, why it ends with a status, and returns
-    /// the status.
+    /// Says on the standard error why the program ends; if that fails, nothing else can be said.
     pub fn tell<R: Eprint, T: Display>(&self, rt: &R, status: u8, why: &T) -> ExitCode
         ensures { exit_status result ≡ status }
     {
@@ -44,8 +36,7 @@ impl<'a> Program<'a> {
         ExitCode::from(status)
     }
 
-    /// Says on the standard error, after the program's name and the path of the file that has the
-    /// fault, why the program ends with a status, and returns the status.
+    /// The same, with the path of the file that has the fault.
     pub fn tell_of<R: Eprint, T: Display>(
         &self,
         rt: &R,
@@ -60,10 +51,8 @@ impl<'a> Program<'a> {
         ExitCode::from(status)
     }
 
-    /// Says why the words of the command line could not be had, and returns the status, 2: one of
-    /// them is not UTF-8 (`InvalidData`), the system gave none, or memory ran out. Of a word that
-    /// is not UTF-8 `clap` says it, for which it needs the program's own `command`: that is `Err`
-    /// if memory ran out for it.
+    /// Says why there are no words. Of one that is not UTF-8 `clap` does, for which it needs the
+    /// program's own `command`.
     pub fn tell_no_words<R: Eprint>(
         &self,
         rt: &R,
@@ -79,9 +68,7 @@ impl<'a> Program<'a> {
         }
     }
 
-    /// Says why a command line asks for no run, and returns the status, 2. If the words ask for
-    /// help, it is printed on `help`, the program's output, and the status is that of `print_help`:
-    /// 0, or `self.status` if the output fails.
+    /// Says why a command line asks for no run; its help goes to `help`, the program's output.
     pub fn explain<R: Eprint, F: Display, H: Write>(
         &self,
         rt: &R,
@@ -97,10 +84,7 @@ impl<'a> Program<'a> {
         }
     }
 
-    /// Prints the help on `help`, the program's output, if the words ask for it, and returns the
-    /// status of `print_help`; else says which mistake they have, or that memory ran out, and
-    /// returns 2. For `clap` all of these are an error; `use_stderr` is false of one that asks for
-    /// help.
+    /// For `clap` a call for help is an error, too, of which `use_stderr` is false.
     fn explain_words<R: Eprint, H: Write>(&self, rt: &R, error: &Error, help: &mut H) -> ExitCode
         ensures mistake { IsMistake error.now → EndsWith 2 (H.contents help.old)
             (H.contents help.new) (exit_status result) }
@@ -113,8 +97,6 @@ impl<'a> Program<'a> {
         self.print_help(rt, help)
     }
 
-    /// Prints the help on `help`, the program's output. The exit status is 0 if all of it was
-    /// printed, and else that of a failed output, `self.status`.
     fn print_help<R: Eprint, H: Write>(&self, rt: &R, help: &mut H) -> ExitCode
         ensures { Helps self.now.help.now self.now.status (H.contents help.old)
             (H.contents help.new) (exit_status result) }
@@ -126,8 +108,7 @@ impl<'a> Program<'a> {
     }
 }
 
-/// Says which mistake the words have, or that memory ran out, and returns status 2. The text is
-/// that of `clap`: it begins with `error:` and ends its line, so nothing is added to it.
+/// The text of `clap` begins with `error:` and ends its line, so nothing is added to it.
 fn tell_mistake<R: Eprint>(rt: &R, error: &Error) -> ExitCode
     ensures { exit_status result ≡ 2 }
 {

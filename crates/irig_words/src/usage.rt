@@ -2,7 +2,7 @@
 
 use clap::Error;
 
-/// Why a command line asks for no run. `F` is the program's own fault of an option's value.
+/// `F` is the program's own fault of an option's value.
 #[derive(Drop)]
 pub enum UsageFault<F> {
     /// `clap` does not accept the words, or they ask for help; or memory ran out.
