@@ -1,15 +1,4 @@
-//! The command line, read by `clap`. A `Command` is what `clap` knows of a command line, an `Arg`
-//! is an option or a word of it, and matches are what `clap` found in the words. Only memory can
-//! run out for a `Command` or an `Arg`. `option_arg` makes an option with a value, and `needed_arg`
-//! a word that has to be there, each by its name and its text in the help. The options are added in
-//! this order: `part_command`, `letter_command`, `format_command`, `command`.
-//!
-//! In a contract, `IsPartCommand`, `IsFormatCommand` and `IsCommand` say that a command has just
-//! the arguments that the function of that name gives it, `IsChoice` that an option takes one of
-//! these values, `IsParsed` and `MayRefuse` that `clap` may give these matches or this error for
-//! the words. An `Arg` that is `global` would be one of subcommands, too.
-//!
-//! Where `let Ok(..) else` returns an error, `?` would do the same; the proof of it takes longer.
+//! The command line, read by `clap`.
 
 ghost use Rattle.std.specs.Prelude.{◌≡◌, IfErr, IfOk, false, codes, map, string_bytes};
 ghost use Rattle.clap.specs.Words.{Rule, app_of, found_of, rule_of, with_rule};
@@ -24,15 +13,12 @@ use clap::{Arg, ArgMatches, Command, Error};
 use irig_words::{UsageFault, format_named, matches_of, needed_arg, option_arg, windowed};
 use std::alloc::{AllocError, Global};
 
-/// The letters that `--format` takes.
 static LETTERS: [&str; 4] = ["A", "B", "E", "G"];
 
-/// The digits that `--expression` takes; some formats permit fewer.
+/// Some formats permit fewer.
 static DIGITS: [&str; 8] = ["0", "1", "2", "3", "4", "5", "6", "7"];
 
-/// What the words of a command line ask for, the program's name being the first. The error is
-/// `Words` if `clap` does not accept the words, they ask for help, or memory runs out, and `Value`
-/// if an option has a value that it cannot have.
+/// What the words of a command line ask for, the program's name being the first.
 pub fn settings<'a>(
     alloc: Global,
     words: &'a [String],
@@ -45,11 +31,7 @@ pub fn settings<'a>(
     }
 }
 
-/// What the matches of a command line that `clap` accepts ask for. Without `--out` texts are
-/// written to the track's path. The first fault is the error, a `Value`: `Window` if a time of the
-/// window is wrong, `Out` if there is a window and no `--out`, or `BadExpression` if the format
-/// does not permit the expression. `clap` has tested the letter and the digit, so nothing else of
-/// the format can be wrong.
+/// What matches ask for. `clap` has tested the letter and the digit of the format.
 fn chosen_of<'a>(matches: &ArgMatches<'a>) -> Result<Settings<'a>, UsageFault<OptionFault>>
     ensures { Chooses (found_of matches.now) result }
 {
@@ -74,8 +56,6 @@ fn chosen_of<'a>(matches: &ArgMatches<'a>) -> Result<Settings<'a>, UsageFault<Op
     })
 }
 
-/// The matches of a command line that `clap` accepts. `Err` if it does not accept the words, they
-/// ask for help, or memory ran out, which `?` makes an error of `clap`.
 fn parse_words<'a>(alloc: Global, words: &'a [String]) -> Result<ArgMatches<'a>, Error>
     ensures parsed { IfOk result (IsParsed (map string_bytes words.entry.now)) }
     ensures refused { IfErr result (MayRefuse (map string_bytes words.entry.now)) }
@@ -83,9 +63,7 @@ fn parse_words<'a>(alloc: Global, words: &'a [String]) -> Result<ArgMatches<'a>,
     matches_of(command(alloc)?, words)
 }
 
-/// The command line of the program: the options of `format_command`, the path to write (`--out`),
-/// and the path of the track. `Err` means in this function and in the next three that memory ran
-/// out.
+/// The command line of the program.
 pub fn command<'a>(alloc: Global) -> Result<Command<'a>, AllocError>
     ensures { IfOk result (λ c. IsCommand (app_of c)) }
 {
@@ -99,8 +77,7 @@ pub fn command<'a>(alloc: Global) -> Result<Command<'a>, AllocError>
         .arg(track_arg(alloc))
 }
 
-/// The command with the options of `letter_command`, and the digit of the expression
-/// (`--expression`).
+/// The options of `letter_command`, and the digit of the expression.
 fn format_command<'a>(alloc: Global) -> Result<Command<'a>, AllocError>
     ensures { IfOk result (λ c. IsFormatCommand (app_of c)) }
 {
@@ -116,8 +93,7 @@ fn format_command<'a>(alloc: Global) -> Result<Command<'a>, AllocError>
     ))
 }
 
-/// The command with the options of `part_command`, and the letter of the format (`--format`). In
-/// the contract, `format` is what `clap` accepts for that option: one of the letters.
+/// The options of `part_command`, and the letter of the format: one that `format` accepts.
 fn letter_command<'a>(alloc: Global) -> Result<Command<'a>, AllocError>
     ensures { IfOk result (λ c. (format : Rule) × IsChoice (codes "format") letters format
         × (app_of c ≡ with_rule part_command format)) }
@@ -134,8 +110,7 @@ fn letter_command<'a>(alloc: Global) -> Result<Command<'a>, AllocError>
     ))
 }
 
-/// The command with the options that say which part of the dump is read: its wire (`--wire`), and
-/// the window (`--from` and `--to`), which `windowed` adds.
+/// The options that say which part of the dump is read: its wire and its window.
 fn part_command<'a>(alloc: Global) -> Result<Command<'a>, AllocError>
     ensures { IfOk result (λ c. IsPartCommand (app_of c)) }
 {
@@ -146,8 +121,7 @@ fn part_command<'a>(alloc: Global) -> Result<Command<'a>, AllocError>
     windowed(alloc, wired)
 }
 
-/// An option `--name` with one of these values: `clap` refuses any other. `value` is what its value
-/// is called in the help, and `help` says what it is for.
+/// An option `--name` with one of these values: `clap` refuses any other.
 fn choice_arg<'a>(
     alloc: Global,
     name: &'a str,
@@ -161,7 +135,6 @@ fn choice_arg<'a>(
     option_arg(alloc, name, value, help).value_parser(values)
 }
 
-/// The argument `TRACK`, the path of the dump, which has to be there.
 fn track_arg<'a>(alloc: Global) -> Arg<'a>
     ensures rule { rule_of result ≡ track }
     ensures local { result.global ≡ false }

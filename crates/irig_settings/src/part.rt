@@ -1,5 +1,4 @@
-//! The window of a dump that a command line asks for, and where what is written of it goes. A
-//! window is the part of the dump that is read, between the times of `--from` and `--to`.
+//! The window of a dump that a command line asks for, and where what is written of it goes.
 
 ghost use Rattle.std.specs.Prelude.{◌≡◌, ◌&&◌, IfErr, IfOk, is_some, not};
 ghost use Rattle.clap.specs.Words.{found_of};
@@ -10,10 +9,7 @@ use clap::ArgMatches;
 use irig_vcd::Window;
 use irig_words::window_named;
 
-/// The window that the matches ask for (`--from` and `--to`); `None` if they ask for none. The
-/// error is `Window` if a text is no time, or the window ends before it begins, and `Out` if there
-/// is a window and no path is given for what is written (`--out`): a part must not replace the
-/// whole.
+/// The window that the matches ask for; a part must not replace the whole.
 pub fn window_of(matches: &ArgMatches<'_>) -> Result<Option<Window>, OptionFault>
     ensures part { IfOk result (IsPart (found_of matches.now)) }
     ensures fault { IfErr result (HasFault (found_of matches.now)) }
@@ -31,8 +27,6 @@ pub fn window_of(matches: &ArgMatches<'_>) -> Result<Option<Window>, OptionFault
     Ok(window)
 }
 
-/// Whether a path to write is missing: there is a window, and no `--out`. Without a window none is
-/// needed.
 fn lacks_path(window: Option<Window>, out: Option<&str>) -> bool
     ensures { result ≡ (is_some window && not (is_some out.entry)) }
 {
