@@ -46,9 +46,8 @@ impl<'s> SingleLines<'s> {
         }
     }
 
-    /// The same as of `PulseLines`, but the first line of a change is added even to a full block.
-    /// It has at most 96 bytes: `shift`, three numbers of 20 bytes, 26 letters, 4 spaces and the
-    /// newline.
+    /// As `fill` of `PulseLines`, but the first line of a change is added even to a full block. It
+    /// has at most 96 bytes: `shift`, three numbers of 20 bytes, 26 letters, 4 spaces, a newline.
     pub fn fill(&mut self, block: &mut Vec<u8>, enough: usize) -> Result<bool, AllocError>
         ensures bytes { OnOk result (block.new.items ++ self.new ≡ block.old.items ++ self.old) }
         ensures end { IfOk result (λ ended. ended ≡ true → self.new ≡ []) }

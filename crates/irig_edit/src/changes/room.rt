@@ -42,7 +42,7 @@ impl Present {
         self.track.can_splice(at, count, put.as_gap())
     }
 
-    /// The same of a move with the marks of the letters that are true in `letters`.
+    /// Whether pulses can be moved with the marks of the letters that are true in `letters`.
     fn can_move(&self, i: usize, j: usize, by: i64, letters: &Letters) -> bool
         ensures { IsTrue result ↔ CanShift self.now.state.micros i j by self.now.state.pulses
             × AllMayMove self.now.state.micros by letters.now self.now.state.marks

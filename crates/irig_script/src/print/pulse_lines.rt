@@ -35,8 +35,8 @@ pub fn print_pulses<W: Write>(
     }
 }
 
-/// The same by a long block. It is not inlined, else this would be on the stack for a short
-/// listing, too.
+/// Prints these lines by a long block. It is not inlined, else the block would be on the stack for
+/// a short listing, too.
 #[inline(never)]
 fn print_many<W: Write>(
     session: &Session,
@@ -50,7 +50,7 @@ fn print_many<W: Write>(
     print_in_blocks(session, before, count, &mut [0; BLOCK], out)
 }
 
-/// The same by this block: as many lines as it has room for go out at a time.
+/// Prints these lines by this block: all that it has room for go out at a time.
 fn print_in_blocks<W: Write>(
     session: &Session,
     before: usize,
