@@ -1,9 +1,4 @@
 //! Which folders in memory there are, and which files in them are no regular ones.
-//!
-//! A place is what a name leads to: the front of its folder, and the name after it. So in a folder
-//! with the front `b/` the name `t` has the place `b/t`. The number of a file is how many calls
-//! were done before it was made. Each list is looked through from its first item on, so the first
-//! item that fits counts.
 
 ghost use Rattle.std.specs.Prelude.{◌≡◌, is_none, option_copied};
 ghost use Rattle.irig_folders.specs.{Places.front_in, Places.other_in, TreeFiles.output_in};
@@ -11,7 +6,6 @@ ghost use Rattle.irig_folders.specs.{Places.front_in, Places.other_in, TreeFiles
 /// A path of a folder. A folder can have many.
 #[derive(Drop)]
 pub struct FolderPath {
-    /// The path.
     pub path: String,
     /// What the places of names in the folder begin with.
     pub front: String,
@@ -20,7 +14,6 @@ pub struct FolderPath {
 /// A file that counts as no regular one: a link, a pipe, or the file that the answers go to.
 #[derive(Drop)]
 pub struct Other {
-    /// Its number.
     pub number: usize,
     /// Where it leads, if it is a link.
     pub text: Option<String>,
@@ -28,8 +21,7 @@ pub struct Other {
     pub takes_answers: bool,
 }
 
-/// Which folders there are, which files are no regular ones, and how many links a path may follow
-/// (`limit`).
+/// The folders and other files there are; a path may follow up to `limit` links.
 #[derive(Drop)]
 pub struct Layout {
     pub folders: Vec<FolderPath>,
@@ -37,8 +29,8 @@ pub struct Layout {
     pub limit: u64,
 }
 
-/// The front of a folder by one of its paths: what the places of names in the folder begin with.
-/// `None` if `path` is no path of a folder.
+/// The front of a folder by one of its paths. Lists are looked through from their first item on, so
+/// the first that fits counts.
 pub fn front_at<'f>(folders: &'f [FolderPath], path: &[u8]) -> Option<&'f str>
     ensures { option_copied result ≡ front_in folders.now path.now }
 {
@@ -49,15 +41,14 @@ pub fn front_at<'f>(folders: &'f [FolderPath], path: &[u8]) -> Option<&'f str>
     front_at(rest, path)
 }
 
-/// Whether the file of this number is a regular one: it is not in `others`.
+/// Whether the file of this number is a regular one.
 pub fn is_regular(others: &[Other], number: usize) -> bool
     ensures { result ≡ is_none (other_in others.now number) }
 {
     other_at(others, number).is_none()
 }
 
-/// The file of this number, if it is no regular one. `None` if it is not in `others`, so it is
-/// regular.
+/// The file of this number, if it is no regular one.
 pub fn other_at<'o>(others: &'o [Other], number: usize) -> Option<&'o Other>
     ensures { option_copied result ≡ other_in others.now number }
 {
@@ -68,8 +59,7 @@ pub fn other_at<'o>(others: &'o [Other], number: usize) -> Option<&'o Other>
     other_at(rest, number)
 }
 
-/// The number of the file that the program's answers (its standard output) go to. `None` if they go
-/// to no file of the list.
+/// The number of the file that the program's answers (its standard output) go to.
 pub fn output_at(others: &[Other]) -> Option<usize>
     ensures { result ≡ output_in others.now }
 {

@@ -1,9 +1,4 @@
 //! What a crash may leave of a folder in memory, for tests.
-//!
-//! A log of calls has the newest first, and begins with an empty folder. The number of a file is
-//! how many calls were done before it was made. So in a log with the newest call first, a call is
-//! that of file `number` if `number` calls are after it in the list. `calls` is a log, and `older`
-//! what it has without its newest call. A sync is a call that keeps something over a crash.
 
 ghost use Rattle.std.specs.Prelude.{◌≡◌, ◌++◌, IfOk, IsTrue};
 ghost use Rattle.irig_disk.specs.Held.{Held};
@@ -12,9 +7,8 @@ ghost use Rattle.irig_folders.specs.{Log.holds_in, LogLeft.may_hold_in};
 use crate::call::Call;
 use std::alloc::{AllocError, Global};
 
-/// The bytes that the file of this number holds: all that calls added to it since it was made; none
-/// if there is no such file. The search goes back from the newest call to the one that made the
-/// file. It fails only if memory runs out.
+/// The bytes that the file of this number holds: what was added since it was made; none if there is
+/// no such file.
 pub fn bytes_of(alloc: Global, calls: &[Call], number: usize) -> Result<Vec<u8>, AllocError>
     ensures { IfOk result (λ bytes. bytes.items ≡ (holds_in calls.now number).bytes) }
 {
@@ -31,7 +25,7 @@ pub fn bytes_of(alloc: Global, calls: &[Call], number: usize) -> Result<Vec<u8>,
     }
 }
 
-/// Bytes with those of a part after them. It fails only if memory runs out.
+/// Bytes with those of a part after them.
 fn with_part(mut bytes: Vec<u8>, part: &[u8]) -> Result<Vec<u8>, AllocError>
     ensures { IfOk result (λ all. all.items ≡ bytes.items ++ part.now) }
 {
@@ -39,7 +33,7 @@ fn with_part(mut bytes: Vec<u8>, part: &[u8]) -> Result<Vec<u8>, AllocError>
     Ok(bytes)
 }
 
-/// The mode of the file of this number: the last one that it was given. 0 if there is no such file.
+/// The mode of the file of this number, the last that it was given; 0 if there is no such file.
 pub fn mode_of(calls: &[Call], number: usize) -> u32
     ensures { result ≡ (holds_in calls.now number).mode }
 {
@@ -53,9 +47,8 @@ pub fn mode_of(calls: &[Call], number: usize) -> u32
     }
 }
 
-/// Whether each crash leaves the file of this number as it is seen: it was not made or changed
-/// since its last sync. Only the newest call on the file counts: after a sync all is kept, after
-/// any other call not. True if there is no such file.
+/// Whether each crash leaves the file of this number as it is seen: the newest call on it is a
+/// sync. True if there is no such file.
 pub fn is_kept(calls: &[Call], number: usize) -> bool
     ensures kept { IsTrue result → (h : Held) → may_hold_in calls.now number h
         → h ≡ holds_in calls.now number }

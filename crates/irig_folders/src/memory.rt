@@ -1,10 +1,4 @@
-//! A folder in memory, for tests. It is the log of the calls that were done on it, the newest
-//! first.
-//!
-//! The number of a file is how many calls were done before it was made. A test plans with `fail`
-//! which calls fail. A call that is planned to fail does nothing and answers `Planned` (`append`
-//! writes a half); each call can also fail as memory runs out, which is `NoMemory`. The calls on a
-//! name are in `memory_folder`, those on a path in `memory_system`.
+//! A folder in memory, for tests: the log of the calls that were done on it.
 
 ghost use Rattle.std.specs.Prelude.{◌≡◌, ◌↔◌, ◌≤◌, ◌<◌, ◌∷◌, ◌++◌, ◌+◌, ◌-◌, ◌^◌, [], None, OnOk};
 ghost use Rattle.std.specs.Prelude.{OnErr, IfOk, IfErr, IfSome, IsTrue, MatchOption, MatchResult};
@@ -32,8 +26,8 @@ pub struct MemoryFile {
     pub(crate) number: usize,
 }
 
-/// A folder in memory: the log of its calls. Those numbered from `fails_from` up to `fails_to`,
-/// which is not included, fail; `done` calls were counted since the last `fail`.
+/// A folder in memory. Calls numbered from `fails_from` up to `fails_to`, not included, fail;
+/// `done` calls were counted since the last `fail`.
 #[derive(Drop)]
 pub struct Memory {
     pub(crate) alloc: Global,
@@ -43,8 +37,7 @@ pub struct Memory {
     fails_to: u64,
 }
 
-/// Adds a call to a log as the newest, so at the front. It fails only if memory runs out, and then
-/// the log stays.
+/// Adds a call to a log as the newest, so at the front.
 pub(crate) fn add(calls: &mut Vec<Call>, call: Call) -> Result<(), MemoryFault>
     ensures ok { OnOk result (calls.new.items ≡ call ∷ calls.old.items) }
     ensures err { OnErr result (calls.new.items ≡ calls.old.items) }
@@ -56,7 +49,7 @@ pub(crate) fn add(calls: &mut Vec<Call>, call: Call) -> Result<(), MemoryFault>
 }
 
 impl Memory {
-    /// An empty folder, with an empty log. No call on it is planned to fail.
+    /// An empty folder. No call on it is planned to fail.
     pub fn new(alloc: Global) -> Self
         ensures empty { result.calls.items ≡ [] }
         ensures unplanned { result.fails_to ≡ 0 }
@@ -77,8 +70,8 @@ impl Memory {
         &self.calls
     }
 
-    /// Plans that the calls from number `from` on fail, up to number `to`, which is not included.
-    /// Calls are numbered from this moment on, from 0.
+    /// Plans that the calls from number `from` on, from 0 at this moment, fail up to `to`, not
+    /// included.
     pub fn fail(&mut self, from: u64, to: u64)
         ensures calls { self.new.calls ≡ self.old.calls }
         ensures done { self.new.done ≡ 0 }
@@ -90,8 +83,7 @@ impl Memory {
         self.fails_to = to;
     }
 
-    /// Whether this call is planned to fail. It counts the call, so it is asked just once in each
-    /// call. The count stays at 2^64 - 1.
+    /// Whether this call is planned to fail. It counts the call, so each call asks just once.
     pub(crate) fn is_planned(&mut self) -> bool
         ensures planned { IsTrue result
             ↔ (self.old.fails_from ≤ self.old.done) × (self.old.done < self.old.fails_to) }
@@ -107,8 +99,7 @@ impl Memory {
 }
 
 impl Memory {
-    /// Adds a new file with a mode to the log, and returns the file. Its name has to be free. It
-    /// fails only if memory runs out, and then nothing changes.
+    /// Adds a new file with a mode to the log. Its name has to be free.
     fn add_file(&mut self, name: &str, mode: u32) -> Result<MemoryFile, MemoryFault>
         ensures ok { leads_in self.old.calls.items name.now ≡ None → IfOk result
             (λ file. Made (disk_of self.old.calls.items) (disk_of self.new.calls.items)
@@ -118,7 +109,6 @@ impl Memory {
         ensures number { IfOk result (λ file. file.number ≡ vec_len self.old.calls) }
         ensures time { Elapses (disk_of self.old.calls.items) (disk_of self.new.calls.items) }
     {
-        // The number of a file is how many calls were done before it was made.
         let number = self.calls.len();
         let name = name.as_bytes().to_vec(self.alloc)?;
         add(&mut self.calls, Call::Make(name, mode))?;
@@ -127,8 +117,8 @@ impl Memory {
 }
 
 impl Memory {
-    /// Makes a new file under a name if that is free. A hidden one can be read and written by its
-    /// owner alone (mode 600, octal); any other has the mode `USUAL`. `None`: the name is taken.
+    /// Makes a new file under a name; `None` if that is taken. A hidden one can be read and written
+    /// by its owner alone.
     pub fn make_new(&mut self, name: &str, hidden: bool) -> Result<Option<MemoryFile>, MemoryFault>
         ensures done { MatchResult result (λ made. MatchOption made
             (IsTaken (disk_of self.old.calls.items) (disk_of self.new.calls.items) name.now)
@@ -149,8 +139,7 @@ impl Memory {
         Ok(Some(file))
     }
 
-    /// Keeps the names that begin with `front`, all if it is empty: after this call, a crash leaves
-    /// each as it is seen.
+    /// Keeps the names that begin with `front`: a crash leaves each as it is seen.
     pub fn sync_front(&mut self, front: &str) -> Result<(), MemoryFault>
         ensures ok { OnOk result (SyncedNames (disk_of self.old.calls.items)
             (disk_of self.new.calls.items) (λ name. front.now ++ name)) }

@@ -5,7 +5,7 @@ ghost use Rattle.irig_folders.specs.declared.memory_fault.MemoryFault.TheVariant
 
 use std::alloc::{AllocError, AllocFailed};
 
-/// Why a call on a folder in memory failed.
+/// The error of a call.
 #[derive(Clone, Copy)]
 pub enum MemoryFault {
     /// Memory ran out.
@@ -19,7 +19,6 @@ pub enum MemoryFault {
 impl From<AllocError> for MemoryFault {
     ghost from_gives = { λ _ fault. fault ≡ NoMemory };
 
-    // A call that ran out of memory fails with `NoMemory`.
     fn from(_: AllocError) -> Self {
         MemoryFault::NoMemory
     }
@@ -28,8 +27,6 @@ impl From<AllocError> for MemoryFault {
 impl<T: Drop> From<AllocFailed<T>> for MemoryFault {
     ghost from_gives = { λ _ fault. fault ≡ NoMemory };
 
-    // A call that ran out of memory and gives back what it could not store fails with `NoMemory`,
-    // too; what it gives back is dropped.
     fn from(_: AllocFailed<T>) -> Self {
         MemoryFault::NoMemory
     }

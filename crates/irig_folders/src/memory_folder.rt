@@ -1,6 +1,4 @@
-//! The calls on names in one folder in memory, for tests. Each that is done is added to the log.
-//! What each method does is said with the trait, in irig_disk. A call that is planned to fail
-//! answers `Planned`; each call can also fail as memory runs out, which is `NoMemory`.
+//! The calls on names in one folder in memory; what each does is said with the trait in irig_disk.
 
 ghost use Rattle.std.specs.Prelude.{true};
 ghost use Rattle.irig_folders.specs.LogLaws.{log_counts_now, log_only_now};
@@ -47,8 +45,7 @@ impl Folder for Memory {
 
     ghost only_now = { λ folder. log_only_now folder.calls.items };
 
-    // Makes a new file under a name if the name is free, a hidden one for its owner alone; `None`:
-    // the name is taken. There is one folder, so the argument for the folder is not used.
+    // There is one folder, so the argument for the folder is not used.
     fn make(
         &mut self,
         _: &(),
@@ -58,8 +55,8 @@ impl Folder for Memory {
         self.make_new(name, hidden)
     }
 
-    // Adds bytes at the end of a file. If the call is planned to fail, half of them (rounded down)
-    // are written, as a call of a system can write a part.
+    // If the call is planned to fail, half of the bytes (rounded down) are written, as a system can
+    // do.
     fn append(&mut self, file: &mut MemoryFile, bytes: &[u8]) -> Result<(), MemoryFault> {
         if self.is_planned() {
             let part = bytes[..bytes.len() / 2].to_vec(self.alloc)?;
@@ -70,7 +67,6 @@ impl Folder for Memory {
         add(&mut self.calls, Call::Append(file.number, all))
     }
 
-    // Gives a file a mode: the bits that say who may read and write it.
     fn take_mode(&mut self, file: &MemoryFile, mode: u32) -> Result<(), MemoryFault> {
         if self.is_planned() {
             return Err(MemoryFault::Planned);
@@ -78,7 +74,6 @@ impl Folder for Memory {
         add(&mut self.calls, Call::TakeMode(file.number, mode))
     }
 
-    // Keeps what a file holds: after this call, a crash leaves that.
     fn sync_file(&mut self, file: &MemoryFile) -> Result<(), MemoryFault> {
         if self.is_planned() {
             return Err(MemoryFault::Planned);
@@ -86,8 +81,7 @@ impl Folder for Memory {
         add(&mut self.calls, Call::SyncFile(file.number))
     }
 
-    // Gives the file of the name `from` the name `to`, instead of the file that had it, if there
-    // was one. `NoSuchName`: no file has the name `from`.
+    // `NoSuchName`: no file has the name `from`.
     fn rename(&mut self, _: &(), from: &str, to: &str) -> Result<(), MemoryFault> {
         if self.is_planned() {
             return Err(MemoryFault::Planned);
@@ -100,7 +94,6 @@ impl Folder for Memory {
         add(&mut self.calls, Call::Rename(old_name, new_name))
     }
 
-    // Frees a name. `NoSuchName`: no file has it.
     fn remove(&mut self, _: &(), name: &str) -> Result<(), MemoryFault> {
         if self.is_planned() {
             return Err(MemoryFault::Planned);
@@ -112,7 +105,7 @@ impl Folder for Memory {
         add(&mut self.calls, Call::Remove(gone))
     }
 
-    // Keeps all names, as there is one folder: after this call, a crash leaves each as it is seen.
+    // All names are kept, as there is one folder.
     fn sync_names(&mut self, _: &()) -> Result<(), MemoryFault> {
         self.sync_front("")
     }

@@ -1,13 +1,5 @@
-//! The files of one folder in memory, for tests. It is the folder `.`, and has no links. What each
-//! method does is said with the traits, `PlainCalls` and `FileSystem` of irig_files. `calls` is the
-//! log of the calls that were done; `file_at`, `bytes_of` and `mode_of` find in it a file by its
-//! name, its bytes and its mode. The mode of a file says who may read and write it.
-//!
-//! A file is known by its number, which is how many calls were done before it was made; its id is 0
-//! and that number. The answers of the program go to no file here. `Parts` are the recording of a
-//! dump and its journal, and `LongParts` the same of up to 2^26 pulses. Reading has two faults:
-//! `DumpFileFault` is of the file, and `VcdFault` inside of the dump in it. No call here is planned
-//! to fail.
+//! The files of the folder `.` in memory, which has no links; what each method does is said with
+//! the traits in irig_files.
 
 ghost use Rattle.std.specs.Prelude.{◌≡◌, None, ⊤};
 ghost use Rattle.std.proofs.Common.{ap};
@@ -34,12 +26,11 @@ use std::path::PathBuf;
 pub struct Nothing;
 
 impl Write for Nothing {
-    // Fails always: nothing is written.
+    // Fails always.
     fn write(&mut self, _: &[u8]) -> io::Result<usize> {
         Err(io::Error::from(ErrorKind::Other))
     }
 
-    // Nothing waits to be written, so there is nothing to do.
     fn flush(&mut self) -> io::Result<()> {
         Ok(())
     }
@@ -56,20 +47,17 @@ impl PlainCalls for Memory {
 
     ghost may_write = { λ _ _. ⊤ };
 
-    // What the program's answers go to: no file of this folder, so it takes no byte. The path does
-    // not matter.
+    // No answers go to a file of this folder, whatever the path is.
     fn open_output(&self, _: &str) -> Nothing {
         Nothing
     }
 
-    // What is no regular file, open to be written. There is none here, whatever the path is, so
-    // what is given takes no byte. It never fails.
+    // There is no such file here, so what is given takes no byte.
     fn open_other(&self, _: &str) -> Result<Nothing, MemoryFault> {
         Ok(Nothing)
     }
 
-    // Opens the file at a path to be described. Each file may be written. `NoSuchName`: none is
-    // there.
+    // Each file may be written. `NoSuchName`: none is at the path.
     fn open_seen(&self, path: &str) -> Result<SeenFile, MemoryFault> {
         match file_at(self.calls(), path.as_bytes()) {
             Some(number) => Ok(SeenFile { number }),
@@ -77,7 +65,6 @@ impl PlainCalls for Memory {
         }
     }
 
-    // What an open file is: a regular one, with its mode. All files here are regular.
     fn seen(&self, file: &SeenFile) -> Result<Described, MemoryFault> {
         Ok(Described {
             is_file: true,
@@ -104,10 +91,7 @@ impl FileSystem for Memory {
 
     ghost ids_differ = { λ _ one other same. ap (λ id. id.1) same };
 
-    // Reads the dump in the file at a path. `wire` is the name of the wire to be read; if none is
-    // given, the dump has to have one wire of one bit. The inner error is a fault of the dump. The
-    // outer one is `CannotBeRead` if no file is at the path, `OutOfMemory`, which is the only error
-    // of `bytes_of`, or `TooLong`, which `read_whole` finds.
+    // The error is `CannotBeRead` if no file is at the path; `bytes_of` fails for memory alone.
     fn read(
         &self,
         alloc: Global,
@@ -123,9 +107,7 @@ impl FileSystem for Memory {
         read_whole(alloc, bytes.as_slice(), wire)
     }
 
-    // Reads the dump in the file at a path, and keeps as much as `extent` says: a part from one
-    // microsecond to another or all, and up to a count of pulses. `wire` and the errors are those
-    // of `read`; here the function `read_extent` of irig_files finds `TooLong`.
+    // The errors are those of `read`, with `TooLong` from the function of the same name.
     fn read_extent(
         &self,
         alloc: Global,
@@ -142,9 +124,8 @@ impl FileSystem for Memory {
         read_extent(alloc, bytes.as_slice(), wire, extent)
     }
 
-    // What a path leads to; `None` if nothing is there. A path that is no single name is described
-    // as what is no regular file, since `None` would mean that a file can be made there. Its id
-    // does not matter: only ids of regular files are compared, as the answers go to no file here.
+    // A path that is no single name is described as no regular file, since `None` would mean that a
+    // file can be made there. Its id does not matter: no answers go to a file here.
     fn describe(&self, path: &str) -> Result<Option<Described>, MemoryFault> {
         if !is_name(path) {
             return Ok(Some(Described {
@@ -163,17 +144,15 @@ impl FileSystem for Memory {
         }
     }
 
-    // The file that the answers go to: none.
     fn output(&self) -> Result<Option<(u64, u64)>, MemoryFault> {
         Ok(None)
     }
 
-    // The text of the link at a path: no link is here.
     fn read_link(&self, _: &str) -> Result<Option<PathBuf>, MemoryFault> {
         Ok(None)
     }
 
-    // Opens the folder at a path: only `.` is one. `NoSuchName`: any other path.
+    // Only `.` is a folder here.
     fn open_folder(&self, _: &mut (), path: &str) -> Result<(), MemoryFault> {
         if path == "." {
             Ok(())

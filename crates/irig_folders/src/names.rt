@@ -1,15 +1,11 @@
-//! Which file a name leads to in a folder in memory, by the log of its calls, the newest first.
-//!
-//! The number of a file is how many calls were done before it was made. `older` is what a log has
-//! without its newest call.
+//! Which file a name leads to in a folder in memory, by the log of its calls.
 
 ghost use Rattle.std.specs.Prelude.{◌≡◌, ◌∷◌, List, MatchOption, None, false};
 ghost use Rattle.irig_folders.specs.{Led.makes, Log.leads_in, declared.call.Call.Call};
 
 use crate::call::Call;
 
-/// The number of the file that a name leads to after these calls. `None` if it leads to none. It
-/// goes back from the newest call to the one that made the file.
+/// The number of the file that a name leads to after these calls.
 pub fn file_at(calls: &[Call], name: &[u8]) -> Option<usize>
     ensures { result ≡ leads_in calls.now name.now }
 {
@@ -30,9 +26,8 @@ fn is_made(call: &Call, name: &[u8]) -> bool
     }
 }
 
-/// The name that led, before this call, to the file to which `name` leads after it. The call is not
-/// the one that makes the file. After a rename to `name` that is the old name; `None` if the call
-/// took `name` away, so that no file has it; else `name` itself.
+/// The name that led, before this call, to the file to which `name` leads after it; `None` if the
+/// call took `name` away. The call is not the one that makes the file.
 fn name_before<'n>(call: &'n Call, name: &'n [u8]) -> Option<&'n [u8]>
     ensures { (older : List Call) → makes call.now name.now ≡ false → MatchOption result
         (leads_in (call.now ∷ older) name.now ≡ None)

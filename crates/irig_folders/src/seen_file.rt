@@ -1,8 +1,7 @@
 //! A file in memory, open to be described.
 
-/// A file in memory, open to be described.
 #[derive(Drop)]
 pub struct SeenFile {
-    /// Its number.
+    /// How many calls were done before it was made.
     pub number: usize,
 }

@@ -1,12 +1,4 @@
-//! Folders in memory, with links and with files that are no regular ones, for tests. They are the
-//! log of the calls on all their places, and what their paths lead to.
-//!
-//! A place is what a name leads to: the front of its folder, and the name after it. The number of a
-//! file is how many calls were done before it was made. `memory` is one folder in memory whose
-//! names are these places, so a call on a tree is a call there, and can be planned to fail with
-//! `memory.fail`; such a call answers `Planned`; each call can also fail as memory runs out, which
-//! is `NoMemory`. `NoSuchName` says that no file has the name, unless its call says more. A
-//! `MemoryFault` is the error of a call.
+//! Folders in memory, with links and with files that are no regular ones, for tests.
 
 ghost use Rattle.std.specs.Prelude.{◌++◌, string_bytes, true};
 ghost use Rattle.std.proofs.lemmas.List.{append_cancel_left};
@@ -34,8 +26,7 @@ pub enum Plain {
     OpenOther,
 }
 
-/// Folders in memory. `memory` has all files by their places, `layout` the paths of folders and the
-/// files that are no regular ones.
+/// Folders in memory: all files by their places, and what paths lead to.
 #[derive(Drop)]
 pub struct Tree {
     pub memory: Memory,
@@ -45,15 +36,14 @@ pub struct Tree {
     pub blind: Option<Plain>,
 }
 
-/// An open folder in memory: the front of its places.
+/// An open folder in memory, by the front of its places.
 #[derive(Drop)]
 pub struct TreeDir {
     pub front: String,
 }
 
 impl Tree {
-    /// A tree with no folder and no file yet. No call on it is planned to fail. A path may follow
-    /// `limit` links.
+    /// A tree with no folder and no file yet. A path may follow `limit` links.
     pub fn new(alloc: Global, limit: u64) -> Tree {
         Tree {
             memory: Memory::new(alloc),
@@ -67,9 +57,8 @@ impl Tree {
         }
     }
 
-    /// Adds a path of a folder. The places of the names in the folder begin with `front`. Two paths
-    /// with one front lead to one folder. A path that was added before keeps the front that it had.
-    /// It fails only if memory runs out.
+    /// Adds a path of a folder. Two paths with one front lead to one folder, and a path that was
+    /// added before keeps its front.
     pub fn add_path(&mut self, path: &str, front: &str) -> Result<(), MemoryFault> {
         let path = String::from_str(self.alloc, path)?;
         let front = String::from_str(self.alloc, front)?;
@@ -77,32 +66,24 @@ impl Tree {
         Ok(())
     }
 
-    /// Adds a file that is no regular one: a link to the path `text`, or without a text a pipe.
-    /// Each crash leaves it. `NoSuchName`: its place is taken, and nothing changes. After any other
-    /// error it may be there in part.
+    /// Adds a link to the path `text`, or without a text a pipe. Each crash leaves it.
+    /// `NoSuchName`: its place is taken. After any other error it may be there in part, as below.
     pub fn add_other(&mut self, place: &str, text: Option<String>) -> Result<(), MemoryFault> {
         self.add_in_place(place, text, false)
     }
 
-    /// Adds the file that the program's answers (its standard output) go to. Of two such files, the
-    /// first counts. `NoSuchName`: its place is taken, and nothing changes. After any other error
-    /// it may be there in part.
+    /// Adds the file that the program's answers go to. Of two such files, the first counts.
     pub fn add_output(&mut self, place: &str) -> Result<(), MemoryFault> {
         self.add_in_place(place, None, true)
     }
 
-    /// Adds a file of `others`. A write to such a file goes into it, and does not replace it by a
-    /// new one; a write to a link goes to where the link leads. Each crash leaves the file. `text`
-    /// is the path that it leads to, if it is a link; `takes_answers` says that the program's
-    /// answers go to it. `NoSuchName`: its place is taken, and nothing changes. After any other
-    /// error the file may be there in part.
+    /// Adds a file of `others`. A write to it goes into it, or to where it leads.
     fn add_in_place(
         &mut self,
         place: &str,
         text: Option<String>,
         takes_answers: bool,
     ) -> Result<(), MemoryFault> {
-        // The number that `make_new` gives the file: how many calls were done before.
         let number = self.memory.calls().len();
         let Some(_) = self.memory.make_new(place, false)? else {
             return Err(MemoryFault::NoSuchName);
@@ -112,13 +93,11 @@ impl Tree {
             text,
             takes_answers,
         })?;
-        // The name is kept over a crash; the empty front means all places.
+        // The empty front means all places.
         self.memory.sync_front("")
     }
 
     /// Adds a regular file with bytes and a mode. Each crash leaves the file with both.
-    /// `NoSuchName`: its place is taken, and nothing changes. After any other error the file may be
-    /// there in part.
     pub fn add_file(&mut self, place: &str, bytes: &[u8], mode: u32) -> Result<(), MemoryFault> {
         let Some(mut file) = self.memory.make_new(place, false)? else {
             return Err(MemoryFault::NoSuchName);
@@ -126,7 +105,6 @@ impl Tree {
         self.memory.append(&mut file, bytes)?;
         self.memory.take_mode(&file, mode)?;
         self.memory.sync_file(&file)?;
-        // All names are kept over a crash, so this one is, too.
         self.memory.sync_front("")
     }
 }
@@ -166,11 +144,8 @@ impl Folder for Tree {
 
     ghost only_now = { λ t. log_only_now t.memory.calls.items };
 
-    // Makes a new file under a name in a folder if the name is free, a hidden one for its owner
-    // alone; `None`: the name is taken. The new file gets the number of calls so far. It fails with
-    // `NoSuchName` if `others` (the files that are no regular ones) has that number, since the file
-    // would not be regular then. The methods here never fill `others` so, but the contract holds of
-    // any `others`.
+    // A new file gets the number of calls so far. If `others` has that number, it would not be
+    // regular: the methods here never fill `others` so, but the contract holds of any.
     fn make(
         &mut self,
         dir: &TreeDir,
@@ -184,24 +159,18 @@ impl Folder for Tree {
         self.memory.make_new(place.as_str(), hidden)
     }
 
-    // Adds bytes at the end of a file. If the call is planned to fail, half of them (rounded down)
-    // are written.
     fn append(&mut self, file: &mut MemoryFile, bytes: &[u8]) -> Result<(), MemoryFault> {
         self.memory.append(file, bytes)
     }
 
-    // Gives a file a mode: the bits that say who may read and write it.
     fn take_mode(&mut self, file: &MemoryFile, mode: u32) -> Result<(), MemoryFault> {
         self.memory.take_mode(file, mode)
     }
 
-    // Keeps what a file holds: after this call, a crash leaves that.
     fn sync_file(&mut self, file: &MemoryFile) -> Result<(), MemoryFault> {
         self.memory.sync_file(file)
     }
 
-    // Gives the file of the name `from` in a folder the name `to` in it, instead of the file that
-    // had the name `to`, if there was one. `NoSuchName`: no file has the name `from`.
     fn rename(&mut self, dir: &TreeDir, from: &str, to: &str) -> Result<(), MemoryFault> {
         let old_place = both(self.alloc, dir.front.as_str(), from)?;
         let new_place = both(self.alloc, dir.front.as_str(), to)?;
@@ -209,14 +178,12 @@ impl Folder for Tree {
             .rename(&(), old_place.as_str(), new_place.as_str())
     }
 
-    // Frees a name in a folder. `NoSuchName`: no file has it.
     fn remove(&mut self, dir: &TreeDir, name: &str) -> Result<(), MemoryFault> {
         let place = both(self.alloc, dir.front.as_str(), name)?;
         self.memory.remove(&(), place.as_str())
     }
 
-    // Keeps the names in a folder, whose places begin with its front: after this call, a crash
-    // leaves each name as it is seen.
+    // The places of the names in a folder begin with its front.
     fn sync_names(&mut self, dir: &TreeDir) -> Result<(), MemoryFault> {
         self.memory.sync_front(dir.front.as_str())
     }

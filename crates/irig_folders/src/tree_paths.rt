@@ -1,10 +1,4 @@
-//! Where paths lead in folders in memory, a `Tree`. Its `memory` has all files by their places, and
-//! its `layout` the paths of folders and the files that are no regular ones.
-//!
-//! A place is what a name leads to: the front of its folder, and the name after it. What fails with
-//! `AllocError` fails only if memory runs out. `front_at` gives the front of a folder by a path,
-//! `file_at` the number of a file by its place, `folder_of` a path without its last name (`.` if it
-//! is a name alone), and `other_at` the file of a number if it is no regular one.
+//! Where paths lead in folders in memory, a `Tree`.
 
 ghost use Rattle.std.specs.Prelude.{◌≡◌, ◌++◌, IfOk, IsErrOf, None, option_copied, option_map};
 ghost use Rattle.std.specs.Prelude.{string_bytes};
@@ -24,8 +18,8 @@ use irig_files::folder_of;
 use std::alloc::{AllocError, Global};
 use std::path::{Path, PathBuf};
 
-/// The place of a path, whether a file is there or not. No link is followed. `None` if the path has
-/// no name at its end, as `a/..`, or if what is before the name is no path of a folder.
+/// The place of a path, whether a file is there or not; links are not followed. `None` if it has no
+/// name at its end, as `a/..`, or is in no folder.
 pub fn place_at(tree: &Tree, path: &str) -> Result<Option<String>, AllocError>
     ensures { IfOk result (λ place. option_map string_bytes place
         ≡ place_in tree.now.layout.folders.items path.now) }
@@ -40,7 +34,7 @@ pub fn place_at(tree: &Tree, path: &str) -> Result<Option<String>, AllocError>
     Ok(Some(place))
 }
 
-/// The text `one` and after it the text `other`, as one text.
+/// The text `one` and after it the text `other`.
 pub fn both(alloc: Global, one: &str, other: &str) -> Result<String, AllocError>
     ensures { IfOk result (λ all. string_bytes all ≡ one.now ++ other.now) }
 {
@@ -57,8 +51,7 @@ pub fn path_of(alloc: Global, text: &str) -> Result<PathBuf, AllocError>
     Ok(PathBuf::from(text))
 }
 
-/// The text of a file, if it is a link: the path that it leads to; else `None`. `other` is what
-/// `other_at` gives: `None` for a regular file.
+/// The text of a file, if it is a link; `None` for a regular one.
 fn text_in(other: Option<&Other>) -> Option<&str>
     ensures { option_copied result ≡ text_of (option_copied other.entry) }
 {
@@ -73,8 +66,7 @@ fn text_in(other: Option<&Other>) -> Option<&str>
     }
 }
 
-/// The text of the link that is itself at a path: the path that it leads to. `None` if nothing is
-/// there, or no link.
+/// The text of the link that is itself at a path.
 pub fn link_text<'t>(tree: &'t Tree, path: &str) -> Result<Option<&'t str>, AllocError>
     ensures { IfOk result (λ text. option_copied text ≡ text_at tree.now.layout.folders.items
         (over tree.now.layout (leads_in tree.now.memory.calls.items)) path.now) }
@@ -88,8 +80,8 @@ pub fn link_text<'t>(tree: &'t Tree, path: &str) -> Result<Option<&'t str>, Allo
     Ok(text_in(other_at(&tree.layout.others, file)))
 }
 
-/// Follows links from a path, at most `links` of them, and returns the path where no link is,
-/// whether a file is there or not. `None` if there are more links, as in a chain without an end.
+/// Follows links from a path, at most `links` of them, to the path where no link is. `None` if
+/// there are more.
 pub fn end_at(tree: &Tree, path: PathBuf, links: u64) -> Result<Option<PathBuf>, AllocError>
     ensures { IfOk result (λ end. option_map path_buf_bytes end ≡ end_of
         (text_at tree.now.layout.folders.items
@@ -106,9 +98,8 @@ pub fn end_at(tree: &Tree, path: PathBuf, links: u64) -> Result<Option<PathBuf>,
     }
 }
 
-/// The path to which the link at `path` leads; `text` is the text of the link. The text counts from
-/// the folder of the link, so `pop` first takes the link's own name away. A text that begins with a
-/// slash counts from the root: then `push` replaces the whole path.
+/// The path to which a link leads. Its text counts from its folder, so `pop` takes the link's name
+/// away; for one that begins with a slash, `push` replaces the whole path.
 fn next_path(mut path: PathBuf, text: &str) -> Result<PathBuf, AllocError>
     ensures { IfOk result (λ next. path_buf_bytes next ≡ followed (path_buf_bytes path) text.now) }
 {
@@ -117,10 +108,8 @@ fn next_path(mut path: PathBuf, text: &str) -> Result<PathBuf, AllocError>
     Ok(path)
 }
 
-/// The number of the file that a path leads to, over links; `None` if the links end at a place
-/// where no file is. `NoSuchName` if the path leads over more links than the tree allows (`limit`),
-/// or ends at a path without a place: it is in no folder, or has no name at its end. The only other
-/// fault is `NoMemory`: memory runs out.
+/// The number of the file that a path leads to, over links. `NoSuchName` if it leads over too many
+/// links, or ends at a path without a place.
 pub fn find(tree: &Tree, path: &str) -> Result<Option<usize>, MemoryFault>
     ensures found { IfOk result (λ found. IsFound tree.now.layout
         (leads_in tree.now.memory.calls.items) path.now found) }

@@ -1,6 +1,4 @@
-//! What the files of folders in memory, a `Tree`, are read as. `find` is the number of the file
-//! that a path leads to, over links. A `DumpFileFault` is `CannotBeRead`, `TooLong` (the file has
-//! too many bytes) or `OutOfMemory`.
+//! What the files of folders in memory, a `Tree`, are read as.
 
 ghost use Rattle.std.specs.Prelude.{◌≡◌, IfErr, IfOk, IsErrOf, None, Ok, Some};
 ghost use Rattle.irig_folders.specs.{Log.holds_in, TreeFiles.held_at};
@@ -14,9 +12,7 @@ use crate::tree_paths::find;
 use irig_files::DumpFileFault;
 use std::alloc::Global;
 
-/// The bytes of the file that a path leads to. `CannotBeRead` if no file is there. So it is, too,
-/// if `find` answers `NoSuchName`: the path leads over too many links or to no folder. The only
-/// other fault is `OutOfMemory`.
+/// The bytes of the file that a path leads to. `CannotBeRead` if it leads to none, or nowhere.
 pub fn bytes_at(tree: &Tree, alloc: Global, path: &str) -> Result<Vec<u8>, DumpFileFault>
     ensures held { IfOk result (λ bytes. held_at tree.now.layout
         tree.now.memory.calls.items path.now ≡ Some bytes.items) }
@@ -31,7 +27,7 @@ pub fn bytes_at(tree: &Tree, alloc: Global, path: &str) -> Result<Vec<u8>, DumpF
     }
 }
 
-/// The bytes of a file, by its number. It fails only if memory runs out, with `OutOfMemory`.
+/// The bytes of a file, by its number. It fails with `OutOfMemory` alone.
 fn held_bytes(tree: &Tree, alloc: Global, file: usize) -> Result<Vec<u8>, DumpFileFault>
     ensures held { IfOk result
         (λ bytes. bytes.items ≡ (holds_in tree.now.memory.calls.items file).bytes) }
@@ -43,9 +39,8 @@ fn held_bytes(tree: &Tree, alloc: Global, file: usize) -> Result<Vec<u8>, DumpFi
     }
 }
 
-/// What a read of bytes in memory gave, `read`, as it is. Such a read never answers `CannotBeRead`,
-/// but its contract does not say so: here `CannotBeRead` would become `OutOfMemory`. So contracts
-/// can say that a read of a tree fails with `CannotBeRead` only if no file is at the path.
+/// What a read of bytes in memory gave. The contract of such a read does not say that it is never
+/// `CannotBeRead`; this one does, and those of a tree need it.
 pub fn read_of<T: Drop>(read: Result<T, DumpFileFault>) -> Result<T, DumpFileFault>
     ensures ok { IfOk result (λ value. read ≡ Ok value) }
     ensures long { IsErrOf result TooLong → IsErrOf read TooLong }

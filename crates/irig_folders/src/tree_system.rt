@@ -1,12 +1,5 @@
-//! The single calls on paths of folders in memory, for tests. What each method does is said with
-//! the traits, `PlainCalls` and `FileSystem` of irig_files. `find` is the number of the file that a
-//! path leads to, over links.
-//!
-//! A file is known by its number, which is how many calls were done before it was made; its id is 0
-//! and that number. `blind` names a call that is planned to fail, with `Planned`. The answers are
-//! those of the program, on its standard output. `Parts` are the recording of a dump and its
-//! journal, and `LongParts` the same of up to 2^26 pulses. `NoMemory` says that memory ran out.
-//! Where `match` hands an error on, `?` would do the same; the proof of it takes longer.
+//! The single calls on paths of folders in memory; what each method does is said with the traits in
+//! irig_files. Where `match` hands an error on, `?` would do the same, with a longer proof.
 
 ghost use Rattle.std.specs.Prelude.{◌≡◌, ◌≢◌, ◌↔◌, IfOk, IsTrue, None, Some, false, true};
 ghost use Rattle.std.specs.Prelude.{is_none, option_copied, option_map};
@@ -37,12 +30,10 @@ use std::path::PathBuf;
 pub struct Pipe;
 
 impl Write for Pipe {
-    // Takes all bytes, and says so.
     fn write(&mut self, bytes: &[u8]) -> io::Result<usize> {
         Ok(bytes.len())
     }
 
-    // Nothing waits to be written, so there is nothing to do.
     fn flush(&mut self) -> io::Result<()> {
         Ok(())
     }
@@ -59,12 +50,11 @@ impl PlainCalls for Tree {
 
     ghost may_write = { λ t i. IsWritable (holds_in t.memory.calls.items i).mode };
 
-    // What the answers go to, open to be written, whatever the path is.
     fn open_output(&self, _: &str) -> Pipe {
         Pipe
     }
 
-    // Opens what is no regular file to be written. `Planned`: the test planned that this fails.
+    // `Planned`: the test planned that this fails.
     fn open_other(&self, _: &str) -> Result<Pipe, MemoryFault> {
         match self.blind {
             Some(Plain::OpenOther) => Err(MemoryFault::Planned),
@@ -72,9 +62,7 @@ impl PlainCalls for Tree {
         }
     }
 
-    // Opens the file at a path as if to write to it, which shows whether it may be written.
-    // `NoSuchName` for all other errors than `Planned`: no file is there, it must not be written,
-    // or `find` failed, also for memory. A caller asks only whether this failed.
+    // `NoSuchName` also if `find` fails for memory: a caller asks only whether this failed.
     fn open_seen(&self, path: &str) -> Result<SeenFile, MemoryFault> {
         if self.blind == Some(Plain::OpenSeen) {
             return Err(MemoryFault::Planned);
@@ -87,7 +75,6 @@ impl PlainCalls for Tree {
         }
     }
 
-    // Whether an open file is a regular one, its mode and its id.
     fn seen(&self, file: &SeenFile) -> Result<Described, MemoryFault> {
         match self.blind {
             Some(Plain::Seen) => Err(MemoryFault::Planned),
@@ -103,8 +90,7 @@ fn is_writable(mode: u32) -> bool
     mode / 0o200 % 2 == 1
 }
 
-/// What the file of a number is: whether it is a regular one, its mode and its id. One that is
-/// written in place, so also the one that the answers go to, counts as no regular one.
+/// What the file of a number is. One that is written in place counts as no regular one.
 fn described(tree: &Tree, file: usize) -> Described
     ensures file { result.is_file ≡ is_none (other_in tree.now.layout.others.items file) }
     ensures mode { result.mode ≡ (holds_in tree.now.memory.calls.items file).mode }
@@ -117,8 +103,8 @@ fn described(tree: &Tree, file: usize) -> Described
     }
 }
 
-/// What `describe` shows of the file of a number: as `described` does, but the file that the
-/// answers go to counts as a regular one, as it can be on a system.
+/// What `describe` shows of a file: as `described`, but the one that the answers go to counts as a
+/// regular one, as it can be on a system.
 fn shown(tree: &Tree, file: usize) -> Described
     ensures regular { result.is_file ≡ true → output_in tree.now.layout.others.items ≢ Some file
         → is_none (other_in tree.now.layout.others.items file) ≡ true }
@@ -133,7 +119,7 @@ fn shown(tree: &Tree, file: usize) -> Described
     seen
 }
 
-/// The id of the file that the answers go to; `None` if they go to none.
+/// The id of the file that the answers go to, if they go to one.
 fn output_id(tree: &Tree) -> Option<(u64, u64)>
     ensures { result ≡ option_map (λ file. (0, file)) (output_in tree.now.layout.others.items) }
 {
@@ -143,8 +129,7 @@ fn output_id(tree: &Tree) -> Option<(u64, u64)>
     }
 }
 
-/// The text of the link at a path; `None` if no link is there. `NoSuchName` if more links follow
-/// one another from there than the tree allows.
+/// The text of the link at a path. `NoSuchName` if more links than `limit` follow from there.
 fn read_text<'t>(tree: &'t Tree, path: &str) -> Result<Option<&'t str>, MemoryFault>
     ensures { IfOk result (λ text. option_copied text ≡ link_at tree.now.layout
         (over tree.now.layout (leads_in tree.now.memory.calls.items)) path.now) }
@@ -176,9 +161,7 @@ impl FileSystem for Tree {
 
     ghost ids_differ = { λ _ one other same. ap (λ id. id.1) same };
 
-    // Reads the dump in the file that a path leads to: the wire named `wire`, or without a name the
-    // one wire of one bit. The outer error is of the file: none is there, too long, no memory; the
-    // inner one is of the dump. `read_of` hands the answer on: its contract is needed here.
+    // `read_of` hands the answer on: its contract is needed here.
     fn read(
         &self,
         alloc: Global,
@@ -189,8 +172,6 @@ impl FileSystem for Tree {
         read_of(read_whole(alloc, bytes.as_slice(), wire))
     }
 
-    // As `read`, with the same errors, but keeps as much of the dump as `extent` says: a part from
-    // one microsecond to another or all, and up to a count of pulses.
     fn read_extent(
         &self,
         alloc: Global,
@@ -202,8 +183,7 @@ impl FileSystem for Tree {
         read_of(read_extent(alloc, bytes.as_slice(), wire, extent))
     }
 
-    // What a path leads to, over links; `None` if no file is there. `NoSuchName`: too many links,
-    // or they end in no folder.
+    // `NoSuchName`: too many links, or they end in no folder.
     fn describe(&self, path: &str) -> Result<Option<Described>, MemoryFault> {
         if self.blind == Some(Plain::Describe) {
             return Err(MemoryFault::Planned);
@@ -215,7 +195,6 @@ impl FileSystem for Tree {
         }
     }
 
-    // The id of the file that the answers go to; `None` if they go to none.
     fn output(&self) -> Result<Option<(u64, u64)>, MemoryFault> {
         match self.blind {
             Some(Plain::Output) => Err(MemoryFault::Planned),
@@ -223,8 +202,6 @@ impl FileSystem for Tree {
         }
     }
 
-    // The text of the link at a path, as a path; `None` if no link is there. `NoSuchName`: more
-    // links follow one another from there than the tree allows.
     fn read_link(&self, path: &str) -> Result<Option<PathBuf>, MemoryFault> {
         if self.blind == Some(Plain::ReadLink) {
             return Err(MemoryFault::Planned);
@@ -235,7 +212,7 @@ impl FileSystem for Tree {
         }
     }
 
-    // Leaves in `dir` the folder of a path. `NoSuchName`: there is none. `NoMemory` empties `dir`.
+    // `NoMemory` empties `dir`.
     fn open_folder(&self, dir: &mut TreeDir, path: &str) -> Result<(), MemoryFault> {
         if self.blind == Some(Plain::OpenFolder) {
             return Err(MemoryFault::Planned);
