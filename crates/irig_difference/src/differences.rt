@@ -1,7 +1,4 @@
-//! The stretches in which two recordings differ: the times in which one is high and the other low,
-//! in microseconds. An edge is where a recording rises or falls. In contracts, `flips` are the
-//! edges that only one of two lists has, and `patched` are edges after the level is inverted in
-//! each stretch.
+//! The stretches in which two recordings differ, one after the other.
 
 ghost use Rattle.std.specs.Prelude.{◌≡◌, ◌≤◌, ◌+◌, ◌↔◌, [], ◌∷◌, ℕ, List, MatchOption, length, max};
 ghost use Rattle.irig_recording.specs.Recording.{RisesFrom, UpTo, level_by_edges};
@@ -14,8 +11,8 @@ use crate::edges_left::EdgesLeft;
 use irig_recording::{Pulse, Recording};
 use std::marker::Model;
 
-/// The stretches in which two recordings differ, as pulses that are high where they do, one after
-/// the other. It takes no memory.
+/// The stretches in which two recordings differ, as pulses that are high where they do. It takes no
+/// memory.
 #[derive(Drop)]
 pub struct Differences<'a> {
     before: EdgesLeft<'a>,
@@ -37,8 +34,7 @@ impl<'a> Model for Differences<'a> {
 }
 
 impl<'a> Differences<'a> {
-    /// The stretches in which the recordings `before` and `after` differ, none if they have the
-    /// same edges. After its end a recording is low.
+    /// The stretches in which `before` and `after` differ. After its end a recording is low.
     pub fn between(before: &'a Recording, after: &'a Recording) -> Differences<'a>
         ensures exact { result ≡ stretches_between before.now after.now }
         // Each time at which the levels differ, and no other.
@@ -60,24 +56,20 @@ impl<'a> Differences<'a> {
     }
 
     /// The next stretch, from the microsecond at which the levels begin to differ to the one at
-    /// which they are the same again; `None` if none is left. At each edge that only one of the two
-    /// has, the levels change from the same to different or back.
+    /// which they are the same again.
     pub fn next(&mut self) -> Option<Pulse>
         ensures { MatchOption result ((self.old ≡ []) × (self.new ≡ []))
             (λ stretch. self.old ≡ stretch ∷ self.new) }
     {
-        // Both recordings end low, so edges that only one has come in pairs: after the first of two
-        // there is a second one.
+        // Both recordings end low, so edges that only one has come in pairs.
         let rise = next_edge(&mut self.before, &mut self.after)?;
         let fall = next_edge(&mut self.before, &mut self.after)?;
         Some(Pulse { rise, fall })
     }
 }
 
-/// Goes past the next edge that only one of two recordings has, and past all edges before it, and
-/// returns its time in microseconds. `None` if no such edge is left: both are at their end then. An
-/// edge that both have at one time is passed in both, since it does not change whether their levels
-/// differ. Pulses that both begin with are passed first: that is quicker than edge by edge.
+/// Goes past the next edge that only one of two recordings has, and returns its time in
+/// microseconds. Pulses that both begin with are passed first, which is quicker.
 fn next_edge(before: &mut EdgesLeft<'_>, after: &mut EdgesLeft<'_>) -> Option<u64>
     requires before { RisesFrom 0 before.old }
     requires after { RisesFrom 0 after.old }

@@ -1,6 +1,4 @@
-//! The edges of pulses, one after the other: an edge is where one rises or falls. A pulse rises
-//! before it falls, so the edges are the rise and the fall of the first, then those of the second,
-//! and so on.
+//! The edges of pulses, one after the other: a rise, the fall of that pulse, the next rise.
 
 ghost use Rattle.std.specs.Prelude.{◌≡◌, ◌+◌, ◌^◌, ◌<◌, ◌≤◌, length, slice_get, drop, take, true};
 ghost use Rattle.irig_track.specs.Edges.{edges_of};
@@ -10,8 +8,7 @@ use irig_gap::Gap;
 use irig_recording::Pulse;
 use std::marker::Model;
 
-/// The edges of pulses that are still to come, in microseconds. A `Gap` keeps its items left and
-/// right of a place; here all pulses are left of it.
+/// The edges of pulses that are still to come, in microseconds.
 #[derive(Drop)]
 pub struct EdgesLeft<'a> {
     pulses: &'a Gap<Pulse>,
@@ -34,7 +31,6 @@ impl<'a> Model for EdgesLeft<'a> {
 }
 
 impl<'a> EdgesLeft<'a> {
-    /// All edges of pulses: none is past yet.
     pub fn new(pulses: &'a Gap<Pulse>) -> EdgesLeft<'a>
         requires { pulses.now.place ≡ length pulses.now.items }
         ensures { result ≡ edges_of pulses.now.items }
@@ -46,8 +42,7 @@ impl<'a> EdgesLeft<'a> {
         }
     }
 
-    /// The next edge, in microseconds: a rise, or the fall of a pulse whose rise is past. `None` if
-    /// none is left. It stays the next.
+    /// The next edge; it stays the next.
     #[inline(always)]
     pub fn first(&self) -> Option<u64>
         ensures { result ≡ slice_get self.now 0 }
@@ -59,14 +54,13 @@ impl<'a> EdgesLeft<'a> {
         Some(if self.is_high { next.fall } else { next.rise })
     }
 
-    /// Goes past the next edge, which has to be there: after a rise the fall of the same pulse
-    /// comes next, and after that the rise of the next pulse.
+    /// Goes past the next edge, which has to be there.
     #[inline(always)]
     pub fn pass(&mut self)
         requires { 0 < length self.old }
         ensures { self.new ≡ drop 1 self.old }
     {
-        // The count is not used: the call's contract bounds the pulses, and the proof needs that.
+        // The proof needs the bound of the count that the call's contract has.
         let _count = self.pulses.gap_at();
         if self.is_high {
             self.past += 1;
@@ -76,9 +70,8 @@ impl<'a> EdgesLeft<'a> {
         }
     }
 
-    /// Goes past the pulses that both begin with, two edges at a time, if the next edge of both is
-    /// a rise; else past none. Both may still begin with the same edge: a rise whose pulses fall at
-    /// other times.
+    /// Goes past the pulses that both begin with, if the next edge of both is a rise. Both may
+    /// still begin with the same rise, if its pulses fall at other times.
     pub fn pass_common(&mut self, other: &mut EdgesLeft<'_>)
         ensures { PassCommon self.old self.new other.old other.new }
     {
@@ -91,10 +84,7 @@ impl<'a> EdgesLeft<'a> {
     }
 }
 
-/// How many pulses of two buffers are the same, one after the other: from the one after the first
-/// `past` of `before`, and the one after the first `other` of `after`, up to the first that differ,
-/// or to the end of a buffer. All pulses are left of the buffer's place, so `gap_at` is how many
-/// there are.
+/// How many pulses of two buffers are the same, after the first `past` and the first `other`.
 fn count_common(before: &Gap<Pulse>, past: usize, after: &Gap<Pulse>, other: usize) -> usize
     requires before { past ≤ before.now.place }
     requires after { other ≤ after.now.place }
@@ -112,7 +102,6 @@ fn count_common(before: &Gap<Pulse>, past: usize, after: &Gap<Pulse>, other: usi
     count
 }
 
-/// Whether two pulses are the same, in rise and fall.
 #[inline(always)]
 fn is_same(one: Pulse, other: Pulse) -> bool
     ensures { result ≡ true → one ≡ other }

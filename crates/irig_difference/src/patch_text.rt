@@ -1,8 +1,4 @@
-//! The patch between two recordings, as a text in parts. A stretch is a time in which one of the
-//! two is high and the other low. The note is the first line, a comment with the two lengths; there
-//! is none if they are the same. A block is where lines are collected until it has enough bytes: at
-//! least as many, as the line that is added last is whole. What fails, fails only if memory runs
-//! out.
+//! The patch between two recordings, as a text in parts.
 
 ghost use Rattle.std.specs.Prelude.{◌≡◌, ◌↔◌, ◌≤◌, ◌++◌, ◌∷◌, [], true, false, IfOk, OnOk, decimal};
 ghost use Rattle.std.specs.Prelude.{drop, length, vec_len};
@@ -17,8 +13,8 @@ use std::marker::Model;
 /// The room for a space and the most decimal digits of a `u64`, which are 20.
 const ROOM: usize = 21;
 
-/// The patch between two recordings, as lines of the editor's language: each inverts the level in
-/// one stretch in which they differ. If their lengths differ, the note before them has both.
+/// The patch between two recordings: a line of the editor's language for each stretch, after the
+/// note if their lengths differ.
 #[derive(Drop)]
 pub struct PatchText<'a> {
     // Whether the note was written, if there is one.
@@ -39,8 +35,7 @@ impl<'a> Model for PatchText<'a> {
 }
 
 impl<'a> PatchText<'a> {
-    /// The patch that turns the recording `before` into the recording `after`. No line is made yet:
-    /// `fill` writes them.
+    /// The patch that turns `before` into `after`; `fill` writes its lines.
     pub fn between(before: &'a Recording, after: &'a Recording) -> PatchText<'a>
         ensures text { result ≡ patch_text before.now after.now }
         // The text is empty if the two recordings are the same, and only then.
@@ -58,9 +53,7 @@ impl<'a> PatchText<'a> {
 impl Text for PatchText<'_> {
     ghost rest = { λ p. p };
 
-    // Writes the note first, unless it was written before; `put_note` writes nothing if the lengths
-    // are the same. Then it writes lines until the block has `enough` bytes. True only if no line
-    // is left; false if the block is full, whether or not a line is left.
+    // The note comes first. True only if no line is left; false if the block is full.
     fn fill(&mut self, block: &mut Vec<u8>, enough: usize) -> Result<bool, AllocError> {
         if !self.is_noted {
             put_note(block, self.before, self.after)?;
@@ -70,8 +63,7 @@ impl Text for PatchText<'_> {
     }
 }
 
-/// Writes the note with two lengths in microseconds, `before` and `after`, as in
-/// `# length 1000 3000`; nothing if they are the same.
+/// Writes the note with two lengths, as in `# length 1000 3000`; nothing if they are the same.
 pub fn put_note(block: &mut Vec<u8>, before: u64, after: u64) -> Result<(), AllocError>
     ensures { OnOk result (block.new.items ≡ block.old.items ++ length_note before after) }
 {
@@ -81,8 +73,7 @@ pub fn put_note(block: &mut Vec<u8>, before: u64, after: u64) -> Result<(), Allo
     put_line(block, b"# length", before, after)
 }
 
-/// Writes lines of stretches to a block until it has `enough` bytes. True only if no line is left;
-/// false if the block is full, whether or not a line is left.
+/// Writes lines of stretches to a block until it has `enough` bytes.
 fn put_lines(
     block: &mut Vec<u8>,
     left: &mut Differences<'_>,
@@ -112,7 +103,6 @@ pub fn put_line(block: &mut Vec<u8>, word: &[u8], first: u64, second: u64) -> Re
     block.extend_from_slice(b"\n")
 }
 
-/// Writes a space and a number in decimal.
 pub fn put_number(block: &mut Vec<u8>, number: u64) -> Result<(), AllocError>
     ensures { OnOk result (block.new.items ≡ block.old.items ++ 32 ∷ decimal number) }
 {
@@ -121,9 +111,8 @@ pub fn put_number(block: &mut Vec<u8>, number: u64) -> Result<(), AllocError>
     block.extend_from_slice(&digits[start..])
 }
 
-/// Writes a space and a number in decimal into the last of the 21 bytes of `digits`. Returns the
-/// index, from 0, of the space. `write_digits` returns that of the first digit: it is 1 or more,
-/// since there are at most 20 digits, so the space has room before it.
+/// Writes a space and a number into the last of the 21 bytes of `digits`, which have room for it.
+/// Returns the index, from 0, of the space.
 fn put_digits(digits: &mut [u8], number: u64) -> usize
     requires { length digits.old ≡ 21 }
     ensures within { result ≤ length digits.new }
