@@ -1,15 +1,4 @@
 //! The patch between two recordings with comments on frames, as a text in parts.
-//!
-//! The patch is what `irig_difference` writes. First comes the note, if the lengths of the two
-//! recordings differ: a line with both, as `# length 1000 3000`. Then each line inverts the level
-//! in one stretch, which is where the two differ.
-//!
-//! A comment, in this file, is a line that is added to the patch: on the frames of one place if
-//! they differ, or the last line, with the numbers of frames. The place of a frame is when its
-//! marker rises, in microseconds; the marker is the pulse with which it begins.
-//!
-//! A block is where lines are collected until it has enough bytes: at least as many, as the line
-//! that is added last is whole. What fails, fails only if memory runs out.
 
 ghost use Rattle.std.specs.Prelude.{◌≡◌, ◌↔◌, ◌≤◌, ◌<◌, ◌++◌, [], true, false, IfOk, OnOk};
 ghost use Rattle.std.specs.Prelude.{vec_len};
@@ -25,9 +14,8 @@ use irig_text::Text;
 use std::alloc::AllocError;
 use std::marker::Model;
 
-/// The patch between two recordings, with comments on the frames that differ. A comment comes
-/// before the line of the first stretch that ends at or after the place of its frame, or after all
-/// of these if none does. The last line has the numbers of frames.
+/// A comment comes before the line of the first stretch that ends at or after the place of its
+/// frame, or after all of these. The last line has the numbers of frames.
 #[derive(Drop)]
 pub struct CommentedPatch<'a> {
     // Whether the note was written, if there is one.
@@ -48,24 +36,22 @@ impl<'a> Model for CommentedPatch<'a> {
 }
 
 impl<'a> CommentedPatch<'a> {
-    /// The patch that makes the recording `after` of the recording `before`, with comments. The
-    /// frames of both are read in one format.
+    /// The patch that makes `after` of `before`, with comments.
     pub fn between(before: &'a Framed, after: &'a Framed) -> CommentedPatch<'a>
         requires { before.now.format ≡ after.now.format }
         ensures text { result ≡ commented_text before.now after.now }
         // Without the comments it is the patch, with its note.
         ensures plain { lines (commented_parts before.now after.now)
             ≡ patch_text before.now.recording after.now.recording }
-        // The comments are those on the frames that differ, in their order, and the last line.
-        // The note is none of these.
+        // The comments are those on the frames that differ, and the last line; the note is none of
+        // these.
         ensures frames { comments (commented_parts before.now after.now)
             ≡ comments (notes (changes before.now after.now)) ++ last_text before.now after.now }
         ensures comments { AreComments (commented_parts before.now after.now) }
         // Nothing is written of two recordings that are the same, and of no others.
         ensures same { result ≡ [] ↔ before.now.recording ≡ after.now.recording }
     {
-        // The counts are not used: the calls' contracts say how many frames there are and in which
-        // order, and the proof needs that.
+        // The proof needs what the calls' contracts say of the frames.
         let _counts = (before.len(), after.len());
         CommentedPatch {
             is_noted: false,
@@ -79,9 +65,7 @@ impl<'a> CommentedPatch<'a> {
 impl Text for CommentedPatch<'_> {
     ghost rest = { λ p. p };
 
-    // Writes the note first, unless it was written before; `put_note` writes nothing if the lengths
-    // are the same. Then it writes lines until the block has `enough` bytes. True only if no line
-    // is left; false if the block is full, whether or not a line is left.
+    // The note comes first. True only if no line is left; false if the block is full.
     fn fill(&mut self, block: &mut Vec<u8>, enough: usize) -> Result<bool, AllocError> {
         if !self.is_noted {
             put_note(block, self.before, self.after)?;
@@ -91,8 +75,7 @@ impl Text for CommentedPatch<'_> {
     }
 }
 
-/// Writes lines to a block until it has `enough` bytes. True only if no line is left; false if the
-/// block is full, whether or not a line is left.
+/// Writes lines to a block until it has `enough` bytes. True only if no line is left.
 fn put_lines(
     block: &mut Vec<u8>,
     left: &mut LinesLeft<'_>,

@@ -1,8 +1,4 @@
-//! The comment on the frames at one place. A place is when a frame's marker rises, in microseconds;
-//! the marker is the pulse with which it begins. Two recordings are compared, one before and one
-//! after a change. The two sides of a place are the frame that each of them has there, if it has
-//! one: the old frame is that of the recording before, the new one that of the recording after.
-//! What fails, fails only if memory runs out.
+//! The comment on the frames at one place.
 
 ghost use Rattle.std.specs.Prelude.{◌≡◌, ◌++◌, OnOk};
 ghost use Rattle.irig_comments.specs.Comments.{after_text, before_text, comment_text, whole_text};
@@ -13,9 +9,7 @@ use irig_difference::put_number;
 use irig_print::put_verdict_text;
 use std::alloc::AllocError;
 
-/// Writes the comment on the frames at one place: a number sign, the old frame, `, then ` and the
-/// new frame, as in `# frame 2 at 2000000: broken 19 class, then none`. It fails only if memory
-/// runs out.
+/// Writes a comment, as in `# frame 2 at 2000000: broken 19 class, then none`.
 pub(crate) fn put_comment(block: &mut Vec<u8>, sides: &Sides) -> Result<(), AllocError>
     ensures { OnOk result (block.new.items ≡ block.old.items ++ comment_text sides.now) }
 {
@@ -26,7 +20,7 @@ pub(crate) fn put_comment(block: &mut Vec<u8>, sides: &Sides) -> Result<(), Allo
     block.extend_from_slice(b"\n")
 }
 
-/// Writes the old frame, as `put_whole` does, or `no frame` if there is none.
+/// Writes the old frame, or `no frame`.
 fn put_before(block: &mut Vec<u8>, before: &Option<Shown>) -> Result<(), AllocError>
     ensures { OnOk result (block.new.items ≡ block.old.items ++ before_text before.now) }
 {
@@ -36,9 +30,8 @@ fn put_before(block: &mut Vec<u8>, before: &Option<Shown>) -> Result<(), AllocEr
     }
 }
 
-/// Writes the new frame, or `none` if there is none. If there is an old frame, it was written whole
-/// and is at the same place, so only what is reported of the new frame is written; else all of it,
-/// as `put_whole` does.
+/// Writes the new frame, or `none`. After an old frame, which is at the same place, only the
+/// report.
 fn put_after(
     block: &mut Vec<u8>,
     before: &Option<Shown>,
@@ -54,8 +47,7 @@ fn put_after(
     }
 }
 
-/// Writes a frame with its number, from 1, its place, and what is reported of it: it begins as in
-/// `frame 12 at 1000: `, and then the report comes. `put_number` writes a space before the number.
+/// Writes a frame with its number, from 1, its place and its report, as in `frame 12 at 1000: ..`.
 fn put_whole(block: &mut Vec<u8>, frame: &Shown) -> Result<(), AllocError>
     ensures { OnOk result (block.new.items ≡ block.old.items ++ whole_text frame.now) }
 {

@@ -1,7 +1,4 @@
-//! How many frames of two recordings are fine, with nothing wrong in them, and how many came, went
-//! and changed from the recording before to the recording after. The place of a frame is when its
-//! marker rises, in microseconds. The two sides of a place are the frame that each recording has
-//! there, if it has one.
+//! How many frames of two recordings are fine, and how many came, went and changed.
 
 ghost use Rattle.std.specs.Prelude.{◌≡◌, ◌<◌, ◌+◌, ◌++◌, ◌^◌, OnOk, cond, codes, decimal};
 ghost use Rattle.irig_comments.specs.Counts.{counts_between, counts_text, is_alone, is_both};
@@ -28,7 +25,6 @@ pub struct Counts {
 }
 
 impl Counts {
-    /// Counts the fine frames of two recordings, and the frames that differ.
     pub fn between(before: &Framed, after: &Framed) -> Counts
         ensures { result ≡ counts_between before.now after.now }
     {
@@ -46,9 +42,8 @@ impl Counts {
         counts
     }
 
-    /// Adds one to `made`, `lost` or `changed`, for a place at which the two sides differ. One side
-    /// is there at least, so the case without both does not come. `room`: two recordings have far
-    /// fewer places than 2^32, so no sum overflows.
+    /// Adds one for a place at which the two sides differ. `room`: two recordings have far fewer
+    /// places than 2^32, so no sum overflows.
     fn add(&mut self, sides: &Sides)
         requires room { (self.old.made < 2 ^ 32) × (self.old.lost < 2 ^ 32)
             × (self.old.changed < 2 ^ 32) }
@@ -70,10 +65,8 @@ impl Counts {
     }
 }
 
-/// Writes the last line, with the numbers of frames, as in
-/// `# frames: 9 fine before, 8 fine after, 0 made, 1 lost, 2 changed`. A text comes after its
-/// number there, so each call below writes the text of the number before it, and then the next
-/// number. It fails only if memory runs out.
+/// Writes the last line, as in `# frames: 9 fine before, 8 fine after, 0 made, 1 lost, 2 changed`.
+/// Each call writes the text of the number before it, and then the next number.
 pub(crate) fn put_counts(block: &mut Vec<u8>, counts: &Counts) -> Result<(), AllocError>
     ensures { OnOk result (block.new.items ≡ block.old.items ++ counts_text counts.now) }
 {
@@ -85,7 +78,7 @@ pub(crate) fn put_counts(block: &mut Vec<u8>, counts: &Counts) -> Result<(), All
     block.extend_from_slice(b" changed\n")
 }
 
-/// Writes a text, a space and a number in decimal: `put_number` writes the space, too.
+/// Writes a text, a space and a number in decimal; `put_number` writes the space.
 fn put_count(block: &mut Vec<u8>, text: &[u8], count: usize) -> Result<(), AllocError>
     ensures { OnOk result
         (block.new.items ≡ block.old.items ++ (text.now ++ codes " " ++ decimal count)) }

@@ -1,10 +1,5 @@
-//! A recording and its frames. Of each frame the index has a record: its marker, which is the pulse
-//! with which it begins, and what is reported of it.
-//!
-//! A clause `few`, `order` or `framed` says again what the types promise, for the proofs of
-//! callers: how many frames there can be, that their markers rise one after the other, and that
-//! they are those of the recording. A recording has at most 2^22 pulses, so 2^31 is a generous
-//! bound. In contracts, `shown_frames` are the frames of a recording, as lines show them.
+//! A recording and its frames; a clause `few`, `order` or `framed` says again what the types
+//! promise, for the proofs of callers.
 
 ghost use Rattle.std.specs.Prelude.{◌≡◌, ◌<◌, ◌^◌, IfOk, IfSome, length, slice_get};
 ghost use Rattle.irig_comments.specs.Counts.{fine_frames, is_fine};
@@ -18,7 +13,6 @@ use irig_track::Track;
 use std::alloc::{AllocError, Global};
 use std::marker::Model;
 
-/// A recording and its frames in one format.
 #[derive(Drop)]
 pub struct Framed {
     recording: Recording,
@@ -39,8 +33,7 @@ impl Model for Framed {
 }
 
 impl Framed {
-    /// A recording and its frames, read in this format. An error means that memory ran out; the
-    /// recording is dropped then.
+    /// A recording and its frames, read in this format. An error means that memory ran out.
     pub fn new(alloc: Global, recording: Recording, format: Format) -> Result<Framed, AllocError>
         ensures { IfOk result (λ x. x ≡ framed format recording) }
     {
@@ -48,7 +41,7 @@ impl Framed {
         // The track takes the recording, so a copy is kept.
         let recording = track.recording(alloc)?;
         let index = Index::build(alloc, &mut track.lens(), format)?;
-        // The count is not used: the call's contract bounds the track, and the proof needs that.
+        // The proof needs the bound of the track that the call's contract has.
         let _count = track.len();
         Ok(Framed {
             recording,
@@ -58,27 +51,25 @@ impl Framed {
         })
     }
 
-    /// The recording.
     pub(crate) fn recording(&self) -> &Recording
         ensures { result.now ≡ self.now.recording }
     {
         &self.recording
     }
 
-    /// How many frames there are.
+    /// How many frames there are. A recording has at most 2^22 pulses, so 2^31 is a generous bound.
     pub(crate) fn len(&self) -> usize
         ensures count { result ≡ length (shown_frames self.now) }
         ensures few { result < 2 ^ 31 }
         ensures order { FramesRise 0 (shown_frames self.now) }
         ensures framed { IsFramed self.now }
     {
-        // The count is not used: the call's contract bounds the track, and the proof needs that.
+        // For the bound, too.
         let _count = self.track.len();
         self.index.len()
     }
 
-    /// The frame that is at `place` in the list of frames, from 0, as a line shows it: its number
-    /// counts from 1, so it is `place` + 1. `None` if there is none.
+    /// The frame at `place` in the list of frames, from 0; its number counts from 1.
     pub(crate) fn shown(&self, place: usize) -> Option<Shown>
         ensures value { result ≡ slice_get (shown_frames self.now) place }
         ensures few { IfSome result (λ s. place < 2 ^ 31) }
@@ -96,7 +87,7 @@ impl Framed {
         })
     }
 
-    /// How many frames are fine: read, and nothing wrong is noted of them.
+    /// How many frames are fine.
     pub(crate) fn fine(&self) -> usize
         ensures { result ≡ fine_frames self.now }
     {

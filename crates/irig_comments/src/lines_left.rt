@@ -1,8 +1,4 @@
-//! The lines of a patch with comments that are still to come. A patch is a script that makes one
-//! recording of another. A stretch is a time in which their levels differ, from `rise` to `fall` in
-//! microseconds: a line inverts the level there. The place of a frame is when its marker rises; the
-//! marker is the pulse with which it begins. A change is a place at which the frames of the two
-//! differ, and has a comment. The last line has the numbers of frames.
+//! The lines of a patch with comments that are still to come.
 
 ghost use Rattle.std.specs.Prelude.{◌≡◌, ◌<◌, ◌++◌, [], true, false, IfOk, OnOk};
 ghost use Rattle.std.specs.Prelude.{vec_len};
@@ -44,9 +40,7 @@ impl<'a> Model for LinesLeft<'a> {
 }
 
 impl<'a> LinesLeft<'a> {
-    /// All lines of the patch that makes the recording `after` of `before`, but not that with the
-    /// two lengths, which the caller writes before these. If the recordings are the same, there is
-    /// no line.
+    /// All lines of the patch that makes `after` of `before`, but not the note.
     pub fn between(before: &'a Framed, after: &'a Framed) -> LinesLeft<'a>
         ensures { result ≡ lines_text (changes before.now after.now)
             (stretches_between before.now.recording after.now.recording)
@@ -64,10 +58,8 @@ impl<'a> LinesLeft<'a> {
         }
     }
 
-    /// Writes the next line, if one is left: the comment on a change, the line of a stretch, or at
-    /// the end the last line. Returns whether none is left then: `true` after the last line, also
-    /// if it was written before; `false` after any other, as the last line is still to come. It
-    /// fails only if memory runs out.
+    /// Writes the next line. True if none is left then: after the last line, or if it was written
+    /// before.
     pub fn put_next(&mut self, block: &mut Vec<u8>) -> Result<bool, AllocError>
         ensures bytes { OnOk result (block.new.items ++ self.new ≡ block.old.items ++ self.old) }
         ensures end { IfOk result (λ ended. ended ≡ true → self.new ≡ []) }
@@ -88,9 +80,7 @@ impl<'a> LinesLeft<'a> {
     }
 }
 
-/// The next change, if its comment comes before the line of the next stretch: no stretch is left,
-/// or it ends at or after the place of the change. `None` if no change is left, or the stretch
-/// comes first: it ends before that place.
+/// The next change, if its comment comes before the line of the next stretch.
 fn change_if_first(change: &Option<Sides>, stretch: &Option<Pulse>) -> Option<Sides>
     ensures { result ≡ first_change change.now stretch.now }
 {
@@ -107,9 +97,8 @@ fn change_if_first(change: &Option<Sides>, stretch: &Option<Pulse>) -> Option<Si
     }
 }
 
-/// The numbers of the last line. `None` if the recordings are the same, since nothing is written
-/// then: their lengths are equal, and there is no stretch. `stretch` is the first one, if there is
-/// any.
+/// The numbers of the last line; none if nothing is written, since the recordings are the same.
+/// `stretch` is the first one.
 fn last_numbers(before: &Framed, after: &Framed, stretch: &Option<Pulse>) -> Option<Counts>
     ensures { result ≡ last_if before.now after.now stretch.now }
 {
@@ -120,9 +109,7 @@ fn last_numbers(before: &Framed, after: &Framed, stretch: &Option<Pulse>) -> Opt
     }
 }
 
-/// Writes the last line, and makes `last` `None`; nothing if it is `None` already, as the line was
-/// written, or there is none. Always returns `true`: no line is left. It fails only if memory runs
-/// out.
+/// Writes the last line, if there is one that was not written. No line is left then.
 fn put_last(block: &mut Vec<u8>, last: &mut Option<Counts>) -> Result<bool, AllocError>
     ensures bytes { OnOk result
         (block.new.items ++ last_left last.new ≡ block.old.items ++ last_left last.old) }

@@ -2,7 +2,6 @@
 
 use irig_index::Verdict;
 
-/// A frame, as a line shows it.
 #[derive(Clone, Copy)]
 pub struct Shown {
     /// Its number, from 1.

@@ -1,6 +1,4 @@
-//! The frames of two recordings at one place. A place is when the marker of a frame rises, in
-//! microseconds. What is reported of a frame, its verdict, is at which element it is broken and
-//! why, or its fields and what is noted of them.
+//! The frames of two recordings at one place.
 
 ghost use Rattle.std.specs.Prelude.{◌≡◌, ◌↔◌, ◌==◌, IsTrue};
 ghost use Rattle.irig_comments.specs.Same.{cause_number, name_number, same_fields, same_note};
@@ -11,19 +9,16 @@ use crate::shown::Shown;
 use irig_codes::{Fields, Name, Note};
 use irig_index::{Cause, Verdict};
 
-/// The frames that begin at one place, on both sides. One of them is there at least.
+/// The frames that begin at one place. One of them is there at least.
 #[derive(Clone, Copy)]
 pub struct Sides {
-    /// The frame of the recording before.
     pub before: Option<Shown>,
-    /// The frame of the recording after.
     pub after: Option<Shown>,
 }
 
 impl Sides {
-    /// Whether only one side has a frame, or both have one and something else is reported of the
-    /// one than of the other. Their numbers do not count. `false` if neither side has one, which
-    /// does not come.
+    /// Whether only one side has a frame, or something else is reported of one than of the other;
+    /// their numbers do not count.
     pub(crate) fn differ(&self) -> bool
         ensures { result ≡ differs self.now }
     {
@@ -35,8 +30,7 @@ impl Sides {
         }
     }
 
-    /// Their place: when the markers rise, in microseconds, both at once if there are two. 0 if
-    /// there is none, which does not come.
+    /// When the markers rise, in microseconds; 0 if there is none, which does not come.
     pub(crate) fn place(&self) -> u64
         ensures { result ≡ place self.now }
     {
@@ -48,8 +42,8 @@ impl Sides {
     }
 }
 
-/// Whether the same is reported of two frames. `is_same_by_parts` compares; this one only adds to
-/// the contract that the two reports are equal if so, and only then (`exact`).
+/// Whether the same is reported of two frames; `exact` adds to `is_same_by_parts` that they are
+/// equal.
 fn is_same(one: &Verdict, other: &Verdict) -> bool
     ensures value { result ≡ same_verdict one.now other.now }
     ensures exact { IsTrue result ↔ (one.now ≡ other.now) }
@@ -57,8 +51,6 @@ fn is_same(one: &Verdict, other: &Verdict) -> bool
     is_same_by_parts(one, other)
 }
 
-/// Whether two reports are equal, part by part. Those of a broken frame and of one that is read are
-/// not.
 fn is_same_by_parts(one: &Verdict, other: &Verdict) -> bool
     ensures { result ≡ same_verdict one.now other.now }
 {
@@ -83,7 +75,6 @@ fn is_same_cause(one: Cause, other: Cause) -> bool
     )
 }
 
-/// Whether all fields are the same.
 fn are_same_fields(one: &Fields, other: &Fields) -> bool
     ensures { result ≡ same_fields one.now other.now }
 {
@@ -108,8 +99,7 @@ fn is_same_part(one: Option<u32>, other: Option<u32>) -> bool
     }
 }
 
-/// Whether both have control functions and they are the same, or neither has them. It does what
-/// `is_same_part` does, for a number of 64 bits.
+/// The same for control functions, a number of 64 bits.
 fn is_same_control(one: Option<u64>, other: Option<u64>) -> bool
     ensures { result ≡ same_part one other }
 {
@@ -120,7 +110,7 @@ fn is_same_control(one: Option<u64>, other: Option<u64>) -> bool
     }
 }
 
-/// Whether the same is noted of two frames: with the field or the element, if the note has one.
+/// Whether the same is noted of two frames, with the field or the element.
 fn is_same_note(one: &Note, other: &Note) -> bool
     ensures { result ≡ same_note one.now other.now }
 {
@@ -133,7 +123,7 @@ fn is_same_note(one: &Note, other: &Note) -> bool
     }
 }
 
-/// A number for each field, so that two fields can be compared: only whether they are equal counts.
+/// A number for each field: only whether two are equal counts.
 fn number_of(name: Name) -> u8
     ensures { result ≡ name_number name }
 {

@@ -1,8 +1,4 @@
-//! The frames of two recordings by their places, one place after the other. The place of a frame is
-//! when its marker rises, in microseconds. The two sides of a place are the frame that each of the
-//! recordings, `before` and `after`, has there, if it has one. In contracts, `shown_frames` are the
-//! frames of a recording, as lines show them. `sides_of` puts those of two recordings together, by
-//! their places.
+//! The frames of two recordings by their places, one place after the other.
 
 ghost use Rattle.std.specs.Prelude.{◌≡◌, [], ◌∷◌, MatchOption, filter, length, ◌<◌, ◌^◌};
 ghost use Rattle.irig_comments.specs.Framed.{shown_frames};
@@ -12,7 +8,7 @@ use crate::framed::Framed;
 use crate::sides::Sides;
 use std::marker::Model;
 
-/// The frames of two recordings that are still to come, by their places.
+/// The frames of two recordings that are still to come.
 #[derive(Drop)]
 pub struct SidesLeft<'a> {
     before: &'a Framed,
@@ -34,7 +30,6 @@ impl<'a> Model for SidesLeft<'a> {
 }
 
 impl<'a> SidesLeft<'a> {
-    /// All frames of two recordings.
     pub fn between(before: &'a Framed, after: &'a Framed) -> SidesLeft<'a>
         ensures { result ≡ sides_of (shown_frames before.now) (shown_frames after.now) }
     {
@@ -46,10 +41,8 @@ impl<'a> SidesLeft<'a> {
         }
     }
 
-    /// The frames at the next place, which are past then: those of both recordings if both begin at
-    /// one microsecond, else the earlier one alone. Both lists are in the order of their places.
-    /// `None` if none is left. The last line returns what is left of one recording alone, and two
-    /// frames of one place.
+    /// The frames at the next place: of both recordings if both begin at one microsecond, else the
+    /// earlier one. Both lists are in the order of their places.
     pub fn next(&mut self) -> Option<Sides>
         ensures { MatchOption result ((self.old ≡ []) × (self.new ≡ []))
             (λ s. self.old ≡ s ∷ self.new) }
