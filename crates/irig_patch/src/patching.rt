@@ -1,10 +1,4 @@
-//! A patch between two recordings, made on a session.
-//!
-//! A recording is a length and edges, in microseconds. A stretch is a time from `rise` to `fall` in
-//! which the levels of two recordings differ. A step is what one `undo` undoes. E5 (`TooMany`) is
-//! more than 2^22 pulses, E11 is out of memory.
-//!
-//! What is marked "Read for .." does nothing: it only lets the proof use what a type promises.
+//! Edits of a session that make a patch.
 
 ghost use Rattle.std.specs.Prelude.{◌≡◌, ◌+◌, ◌≤◌, ◌^◌, IfErr, OnOk, length};
 ghost use Rattle.irig_recording.specs.Recording.{RisesFrom, UpTo};
@@ -17,11 +11,7 @@ ghost use Rattle.irig_patch.specs.Patched.{AreStretches, Patches, StopsPatch, ma
 use irig_difference::{Differences, Recording};
 use irig_edit::{Refusal, Session};
 
-/// On a session of the recording `before`, makes the edges of the recording `after`; the length
-/// stays. No edge of `after` may be later than the end of `before` (`covers`). It inverts the level
-/// once in each stretch, which are as few inverts as suffice. Each is a step that can be undone.
-///
-/// E5 if there would be more than 2^22 pulses on the way, or E11. The steps made before that stay.
+/// Makes the edges of `after` on a session of `before`. After a refusal the steps before it stay.
 pub fn patch(session: &mut Session, before: &Recording, after: &Recording) -> Result<(), Refusal>
     requires before { recording_of session.old.state ≡ before.now }
     requires covers { UpTo before.now.micros after.now.edges }
@@ -30,19 +20,15 @@ pub fn patch(session: &mut Session, before: &Recording, after: &Recording) -> Re
     ensures patches { OnOk result
         (Patches (stretches_between before.now after.now) session.old session.new) }
     ensures refused { IfErr result StopsPatch }
-    // E5 cannot come if there is room for one more pulse for each stretch: an invert adds one at
-    // most.
     ensures few { length session.old.state.pulses
         + length (stretches_between before.now after.now) ≤ 2 ^ 22
         → IfErr result (λ e. e ≡ OutOfMemory) }
 {
-    // Read for their laws alone: edges rise, and none is later than the end of its recording.
+    // For what the type promises: edges rise, and none is later than the end of its recording.
     let _lengths = (before.length(), after.length());
     invert_all(session, &mut Differences::between(before, after))
 }
 
-/// Inverts the level in each of the stretches that are left, in their order, each as a step. It
-/// stops at the first that is refused, by E5 or E11; the steps before it stay.
 fn invert_all(session: &mut Session, left: &mut Differences<'_>) -> Result<(), Refusal>
     requires track { RisesFrom 0 (edges_of session.old.state.pulses) }
     requires left { AreStretches session.old.state.micros left.old }
