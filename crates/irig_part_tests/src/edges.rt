@@ -1,12 +1,11 @@
-//! Edges, and the pulses and the tracks that have them. An edge is the time of a rise or a fall, in
-//! microseconds; a track is pulses and a length. An error is that memory ran out.
+//! Edges, and the pulses and the tracks that have them.
 
 use irig_gap::Gap;
 use irig_recording::{Pulse, Recording};
 use irig_track::Track;
 use std::alloc::{AllocError, Global};
 
-/// Whether pulses have these edges, in order: rise, fall, rise and so on, and no more.
+/// Rise, fall, rise and so on, and no more.
 pub(crate) fn have_edges(pulses: &Gap<Pulse>, edges: &[u64]) -> bool {
     let mut left = edges;
     for index in 0..pulses.len() {
@@ -19,8 +18,7 @@ pub(crate) fn have_edges(pulses: &Gap<Pulse>, edges: &[u64]) -> bool {
     left.is_empty()
 }
 
-/// The track of a length and edges, in microseconds. The error is that memory ran out. It comes
-/// also if length and edges are no recording, but no test gives such here.
+/// The error is also that length and edges are no recording, but no test gives such here.
 pub(crate) fn track_of(alloc: Global, length: u64, edges: &[u64]) -> Result<Track, AllocError> {
     match Recording::new(alloc, length, edges)? {
         Some(recording) => Track::new(recording),
@@ -29,7 +27,7 @@ pub(crate) fn track_of(alloc: Global, length: u64, edges: &[u64]) -> Result<Trac
 }
 
 /// The edges of 2^22 pulses, the most that a track may have: up at each even microsecond from 0 on,
-/// and down at the next. So the edges are the numbers from 0 up to 2^23, which is not included.
+/// and down at the next.
 pub(crate) fn most_edges(alloc: Global) -> Result<Vec<u64>, AllocError> {
     let mut edges = Vec::with_capacity(alloc, 1 << 23)?;
     for edge in 0..1u64 << 23 {

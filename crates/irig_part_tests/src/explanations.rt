@@ -1,6 +1,4 @@
-//! The cheapest explanation of ten rises, and the cost below which all explanations give an
-//! interval a place. Each rise looks like an element. The claims are worked out by hand, the bounds
-//! by `tests/reference/explanations.py`, which has no table of what comes after a claim.
+//! The cheapest explanation of ten rises, and the cost below which all give an interval a place.
 
 ghost use Rattle.std.specs.Prelude.{Bool, ◌≡◌, ◌^◌, ◌≤◌};
 ghost use Rattle.irig_part_tests.specs.Looks.{kind_price, look_place, look_price};
@@ -9,15 +7,13 @@ use irig_explain::{Asked, Claim, Costs, Explanation, Kind, Places, Rises, Tables
 use std::alloc::{AllocError, Global};
 use std::process::Abort;
 
-/// How many elements are in a frame.
 const ELEMENTS: usize = 100;
 
-/// The elements that rises look like.
+/// The element that each rise looks like.
 struct Looks {
     elements: &'static [usize],
 }
 
-/// What the kind of a step costs.
 fn price_of(kind: Kind, is_next: bool) -> u32
     ensures { result ≡ kind_price kind is_next }
 {
@@ -77,7 +73,6 @@ const RISES: Rises = Rises {
     skip: 8,
 };
 
-/// The same rises, if there are only eight elements.
 const EIGHT: Rises = Rises {
     count: 10,
     states: 8,
@@ -85,8 +80,7 @@ const EIGHT: Rises = Rises {
     skip: 8,
 };
 
-/// The rises of the cheapest explanation with their elements. It passes over rise 3 for 8, and
-/// jumps for 16.
+/// By hand: the cheapest explanation passes over rise 3 for 8, and jumps for 16.
 static CLAIMS: [(usize, usize); 9] = [
     (0, 3),
     (1, 4),
@@ -99,12 +93,11 @@ static CLAIMS: [(usize, usize); 9] = [
     (9, 42),
 ];
 
-/// The same with eight elements. The four last rises look like none of them, so they are no element
-/// for 8 each.
+/// By hand: with eight elements the four last rises look like none, so they are none for 8 each.
 static CLAIMS_OF_EIGHT: [(usize, usize); 5] = [(0, 3), (1, 4), (2, 5), (4, 6), (5, 7)];
 
-/// An interval, a place, and the cost below which all explanations give it the place. The cheapest
-/// one costs 24, so a row of 24 says that the cheapest does not.
+/// An interval, a place, and the cost below which all explanations give it the place, by
+/// `tests/reference/explanations.py`. The cheapest one costs 24: it does not, if a row says 24.
 static BOUNDS: [(usize, u64, u64); 12] = [
     (0, 3, 32),
     (1, 3, 40),
@@ -120,7 +113,6 @@ static BOUNDS: [(usize, u64, u64); 12] = [
     (6, 2, 24),
 ];
 
-/// Whether an explanation has these claims at this cost.
 fn has(explanation: &Explanation, claims: &[(usize, usize)], cost: u64) -> bool {
     let found = explanation.claims.as_slice();
     if found.len() != claims.len() || explanation.cost != cost {
@@ -134,7 +126,7 @@ fn has(explanation: &Explanation, claims: &[(usize, usize)], cost: u64) -> bool 
     true
 }
 
-/// Whether the cheapest explanation has these claims at this cost, with one table and with both.
+/// Asks with one table and with both.
 fn is_cheapest(
     alloc: Global,
     rises: Rises,
@@ -149,19 +141,16 @@ fn is_cheapest(
     Ok(has(&alone, claims, cost) && has(&both, claims, cost))
 }
 
-// The costs are those of the rows.
 #[test]
 fn the_cheapest_passes_over_noise_and_jumps(rt: HostRuntime) {
     assert!(&rt; is_cheapest(rt.alloc(), RISES, &CLAIMS, 24) == Ok(true));
 }
 
-// It passes over rise 3, and the four last ones are none: 8 for each.
 #[test]
 fn no_element_beyond_the_states_is_claimed(rt: HostRuntime) {
     assert!(&rt; is_cheapest(rt.alloc(), EIGHT, &CLAIMS_OF_EIGHT, 40) == Ok(true));
 }
 
-/// Whether the bound of each row is the answer.
 fn are_bounds(alloc: Global) -> Result<bool, AllocError> {
     let tables = Tables::build(alloc, &LOOKS, RISES)?;
     for (interval, place, bound) in &BOUNDS {

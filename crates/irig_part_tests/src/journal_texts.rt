@@ -1,6 +1,4 @@
-//! Saved journals: histories of a session as text (`docs/FORMATS.md`). The worked one, `WORKED`, is
-//! read and written: of two pulses the first was deleted, and a mark was set and undone. Texts with
-//! a wrong line are read. What writes returns false if memory runs out. Lines count from 1.
+//! Saved journals as `docs/FORMATS.md` has them: a worked one read and written, and wrong ones.
 
 ghost use Rattle.std.specs.Prelude.{◌<◌, ◌^◌, length};
 
@@ -13,18 +11,17 @@ use irig_track::Pulse;
 use std::alloc::{AllocError, Global};
 use std::process::Abort;
 
+/// Of two pulses the first was deleted, and a mark was set and undone.
 const WORKED: &[u8] =
     b"irig-journal-1\nformat G 2\ncursor 1\npast 1\nat 2\nsplice 1 0 1\n100 120\nfuture 1\nat 1\n\
     setmark a 110\n";
 
-/// The pulse that was deleted, in microseconds.
 const DELETED: Pulse = Pulse {
     rise: 100,
     fall: 120,
 };
 
-/// The number of the first wrong line of a text, from 1; 0 if it has none. If memory runs out it is
-/// 1000, which no row has.
+/// 0 if no line is wrong; if memory runs out 1000, which no row has.
 fn fault(alloc: Global, text: &[u8]) -> usize
     requires { length text.now < 2 ^ 63 }
 {
@@ -35,14 +32,12 @@ fn fault(alloc: Global, text: &[u8]) -> usize
     }
 }
 
-/// Asserts that each text, far below the 2^63 bytes of `fault`, has its wrong line as its row says.
 fn check(rt: &impl Abort, alloc: Global, rows: &[(&[u8], usize)]) {
     for (text, line) in rows {
         assert!(rt; text.len() < 1 << 20 && fault(alloc, text) == *line);
     }
 }
 
-/// Texts, and the number of the wrong line at the head.
 static HEADS: [(&[u8], usize); 11] = [
     (b"", 1),
     // A line without its end, a space or a return before it.
@@ -73,9 +68,8 @@ fn the_first_line_at_fault_at_the_head_is_told(rt: HostRuntime) {
     check(&rt, rt.alloc(), &HEADS);
 }
 
-/// Texts, and the number of the wrong line after the head; 0 if there is none. A line that is
-/// missing is at fault, not the count before it. Letters of a shift are in order. A group holds no
-/// group.
+/// A line that is missing is at fault, not the count before it. Letters of a shift are in order. A
+/// group holds no group.
 static STEPS: [(&[u8], usize); 11] = [
     (
         b"irig-journal-1\nformat G 2\ncursor 1\npast 18446744073709551615\n",
@@ -129,7 +123,6 @@ fn the_first_line_at_fault_in_a_step_is_told(rt: HostRuntime) {
     check(&rt, rt.alloc(), &STEPS);
 }
 
-/// Whether a step leads to cursor 2, and inserts the pulse that was deleted as pulse 1.
 fn is_splice(step: &SavedStep) -> bool {
     let Change::One(Single::Splice { at, count, put }) = &step.change else {
         return false;
@@ -137,7 +130,6 @@ fn is_splice(step: &SavedStep) -> bool {
     step.cursor == 2 && *at == 1 && *count == 0 && put.len() == 1 && put.get(0) == DELETED
 }
 
-/// Whether a step leads to cursor 1, and sets the mark a (place 0) to 110 microseconds.
 fn is_mark(step: &SavedStep) -> bool {
     let Change::One(Single::SetMark { letter, time }) = &step.change else {
         return false;
@@ -145,18 +137,15 @@ fn is_mark(step: &SavedStep) -> bool {
     step.cursor == 1 && letter.place() == 0 && *time == Some(110)
 }
 
-/// Whether the journal begins as the worked one: format G 2, cursor 1, no mark.
 fn has_head(saved: &Saved) -> bool {
     saved.kind == Kind::G && saved.expression == 2 && saved.cursor == 1 && saved.marks == [None; 26]
 }
 
-/// Whether the journal has the steps of the worked one: one back, and one forward.
 fn has_steps(saved: &Saved) -> bool {
     let (past, future) = (saved.past.as_slice(), saved.future.as_slice());
     past.len() == 1 && is_splice(&past[0]) && future.len() == 1 && is_mark(&future[0])
 }
 
-/// Whether `WORKED` is read as the journal that it is. False if memory runs out.
 fn is_worked_read(alloc: Global) -> bool {
     match parse(alloc, WORKED) {
         Ok(saved) => has_head(&saved) && has_steps(&saved),
@@ -169,19 +158,17 @@ fn the_worked_journal_is_read(rt: HostRuntime) {
     assert!(rt; is_worked_read(rt.alloc()));
 }
 
-/// Writes all lines of a change: `usize::MAX` bytes are never enough, so none is left for later.
+/// `usize::MAX` bytes are never enough, so none is left for later.
 fn put_lines(text: &mut Vec<u8>, single: Single) -> bool {
     SingleLines::of(&single).fill(text, usize::MAX).is_ok()
 }
 
-/// The pulse that was deleted, to be inserted. An error if memory runs out.
 fn deleted(alloc: Global) -> Result<Pulses, AllocError> {
     let mut put = Pulses::new(alloc);
     put.push(DELETED)?;
     Ok(put)
 }
 
-/// Writes the lines of the change that inserts the deleted pulse.
 fn put_splice(text: &mut Vec<u8>) -> bool {
     let (at, count) = (1, 0);
     match deleted(*text.allocator()) {
@@ -190,8 +177,7 @@ fn put_splice(text: &mut Vec<u8>) -> bool {
     }
 }
 
-/// Writes the lines of the worked journal's step forward, which sets the mark a. `put_step` gets
-/// the cursor, whether the step is a group, and how many changes it has.
+/// `put_step` gets the cursor, whether the step is a group, and how many changes it has.
 fn put_forward(text: &mut Vec<u8>) -> bool {
     let (letter, time) = (Letter::new(0), Some(110));
     put_future(text, 1).is_ok()
@@ -205,7 +191,7 @@ const MARKS: [bool; 26] = [
     false, false, false, false, false, false, false, false, false, false, false, false, true,
 ];
 
-/// Writes the lines of a group of changes of other kinds, a step that leads to cursor 4.
+/// A group of changes of other kinds, a step that leads to cursor 4.
 fn put_changes(text: &mut Vec<u8>) -> bool {
     let (i, j, by, marks) = (1, 2, -20, MARKS);
     let (kind, expression) = (Kind::E, 1);
@@ -215,8 +201,7 @@ fn put_changes(text: &mut Vec<u8>) -> bool {
         && put_lines(text, Single::SetFormat { kind, expression })
 }
 
-/// Whether the lines of the worked journal are written into an empty text. `put_head` gets the
-/// cursor, the marks and how many steps back there are.
+/// `put_head` gets the cursor, the marks and how many steps back there are.
 fn is_worked_put(text: &mut Vec<u8>, format: Format) -> bool {
     put_head(text, format, 1, &[None; 26], 1).is_ok()
         && put_step(text, 2, false, 1).is_ok()
@@ -225,15 +210,12 @@ fn is_worked_put(text: &mut Vec<u8>, format: Format) -> bool {
         && text.as_slice() == WORKED
 }
 
-/// The lines of that group.
 const GROUP: &[u8] = b"at 4\ngroup 3\nshift 1 2 -20 az\ntoggle 5 6\nsetformat E 1\n";
 
-/// Whether `put_changes` writes exactly `GROUP` into an empty text. False if memory runs out.
 fn is_group_put(text: &mut Vec<u8>) -> bool {
     put_changes(text) && text.as_slice() == GROUP
 }
 
-/// Whether the worked journal and that group are written, each into an empty text.
 fn are_put(text: &mut Vec<u8>) -> bool {
     let Ok(format) = Format::new(Kind::G, 2) else {
         return false;

@@ -1,11 +1,4 @@
-//! Calls of a journal over a stack of bytes, with what each answers and leaves, worked out by hand.
-//! An edit pushes a byte or pops one. The journal keeps steps back and forward: to turn a step is
-//! to make its change to the stack, and to keep the change that leads back. The cursor is a number
-//! that each step keeps and gives back.
-//!
-//! That a journal is ready at a stack (`AreReady`), as the contracts ask, says that its steps fit
-//! the stack. A group is steps from `begin` to `end`, which become one step; `abort` undoes them
-//! instead. A `JournalFault` says why a journal refuses a call; then nothing changes.
+//! Calls of a journal over a stack of bytes, with what each answers and leaves, by hand.
 
 ghost use Rattle.std.specs.Prelude.{◌≡◌, None, vec_capacity};
 ghost use Rattle.irig_journal.specs.Journal.{AreReady};
@@ -19,8 +12,7 @@ use irig_journal::{Journal, JournalFault, Reversible};
 use std::alloc::Global;
 use std::process::Abort;
 
-/// What a user asks for: an edit with the cursor that it leaves (of a push the byte comes first), a
-/// move of the cursor, a step back or forward, or the begin or one of the two ends of a group.
+/// An edit has the cursor that it leaves, a push its byte first; `Go` moves the cursor.
 #[derive(Clone, Copy)]
 enum Call {
     Push(u8, usize),
@@ -33,7 +25,7 @@ enum Call {
     Abort,
 }
 
-/// What a call answers. `Unfit` if the edit does not apply.
+/// `Unfit` if the edit does not apply.
 #[derive(Clone, Copy, PartialEq, Eq)]
 enum Reply {
     Done,
@@ -54,9 +46,7 @@ type Row = (
     (u128, u128),
 );
 
-/// Makes an undo, a redo, or a call on a group, over any state. An undo, a redo and an abort lead
-/// to another state and its cursor; a begin and an end leave both. An error is why the journal
-/// refuses the call. For an edit or a move, which do not come here, it does nothing.
+/// For an edit or a move, which do not come here, it does nothing.
 fn step<R: Reversible>(
     journal: &mut Journal<R>,
     state: &mut R,
@@ -78,9 +68,8 @@ fn step<R: Reversible>(
     }
 }
 
-/// Makes a change if it applies, over any state, as a step that keeps the cursor before it; the
-/// cursor is `after` then. `Unfit` if it does not apply: nothing changes. `Refused` only if memory
-/// runs out: the state stays, but the cursor is `after` also then. No row has this.
+/// The step keeps the cursor before it. If memory runs out the state stays, but the cursor is
+/// `after` also then; no row has this.
 fn make<R: Reversible>(
     journal: &mut Journal<R>,
     state: &mut R,
@@ -101,7 +90,6 @@ fn make<R: Reversible>(
     reply_to(journal.record(state, change, before))
 }
 
-/// The reply for what the journal answers: `Done`, or that it refused the call and why.
 fn reply_to(answer: Result<(), JournalFault>) -> Reply {
     match answer {
         Ok(()) => Reply::Done,
@@ -109,9 +97,6 @@ fn reply_to(answer: Result<(), JournalFault>) -> Reply {
     }
 }
 
-/// Obeys a call: an edit (`make`), a move of the cursor to a place, or any other (`step`). An edit
-/// leaves the cursor `after`, and its step keeps the cursor before it. `Unfit` is an edit that does
-/// not apply, `Refused` a call that the journal refuses, else it is `Done`.
 fn obey(journal: &mut Journal<Stack>, stack: &mut Stack, cursor: &mut usize, call: Call) -> Reply
     requires { AreReady CanEdit edited (λ d. d) (HasPlaceFor (vec_capacity stack.old.items))
         stack.old.items.items journal.old }
@@ -129,8 +114,7 @@ fn obey(journal: &mut Journal<Stack>, stack: &mut Stack, cursor: &mut usize, cal
     }
 }
 
-/// A journal with no steps and no open group (`floor` is `None`), which is ready at the stack. Only
-/// the contract reads the stack.
+/// Only the contract reads the stack.
 fn fresh(alloc: Global, _stack: &Stack) -> Journal<Stack>
     ensures ready { AreReady CanEdit edited (λ d. d) (HasPlaceFor (vec_capacity _stack.now.items))
         _stack.now.items.items result }
@@ -139,7 +123,6 @@ fn fresh(alloc: Global, _stack: &Stack) -> Journal<Stack>
     Journal::new(alloc)
 }
 
-/// Whether bytes, cursor, steps, turns and what is held are those of a row.
 fn is_left(journal: &Journal<Stack>, stack: &Stack, cursor: usize, row: &Row) -> bool {
     let (_, _, bytes, place, back, forward, turns, (past, future)) = row;
     let held = journal.weights();
@@ -152,8 +135,7 @@ fn is_left(journal: &Journal<Stack>, stack: &Stack, cursor: usize, row: &Row) ->
         && held.1 == *future
 }
 
-/// Obeys the calls of rows, one after another, with the cursor at 0 before the first. Returns
-/// whether each answers and leaves what its row says.
+/// The cursor is at 0 before the first row.
 fn are_answered(journal: &mut Journal<Stack>, stack: &mut Stack, rows: &[Row]) -> bool
     requires { AreReady CanEdit edited (λ d. d) (HasPlaceFor (vec_capacity stack.old.items))
         stack.old.items.items journal.old }
@@ -168,8 +150,7 @@ fn are_answered(journal: &mut Journal<Stack>, stack: &mut Stack, rows: &[Row]) -
     true
 }
 
-/// Obeys the calls of rows, from an empty stack and a new journal on. The test fails if one does
-/// not answer or leave what its row says.
+/// From an empty stack and a new journal on.
 fn check(rt: &impl Abort, alloc: Global, rows: &[Row]) {
     let mut stack = Stack {
         items: Vec::new(alloc),

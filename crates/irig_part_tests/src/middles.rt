@@ -5,20 +5,17 @@ ghost use Rattle.std.specs.Prelude.{◌^◌, ◌<◌};
 use irig_explain::middles;
 use std::alloc::{AllocError, Global};
 
-/// The second distance is two, and the fifth and sixth have a pulse between them that is not one.
+/// The second is two in one; between the fifth and the sixth is a pulse that is not one.
 static DISTANCES: [u64; 7] = [10, 20, 11, 10, 3, 7, 10];
 
-/// Of three each time: the middle one of 10 20 11 is 11, and so on; at the ends of the first and
-/// the last three.
+/// At the ends of the first and the last three.
 static OF_THREE: [u64; 7] = [11, 11, 11, 10, 7, 7, 7];
 
 /// Of all, since more are wanted than there are.
 static OF_ALL: [u64; 7] = [10, 10, 10, 10, 10, 10, 10];
 
-/// Of two, the later one.
 static OF_TWO: [u64; 2] = [7, 7];
 
-/// Whether the middle ones of distances are those.
 fn are_middles(
     alloc: Global,
     distances: &[u64],

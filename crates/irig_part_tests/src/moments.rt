@@ -1,17 +1,14 @@
-//! Rows from outside: texts of moments, and the frames from them on. A moment is a date (day of the
-//! year, or month and day) and a time of day, to hundredths. Frames follow one another by a period:
-//! 10 seconds in E, 1 in B, a tenth in A, a hundredth in G. An expression says what they carry: 2
-//! the time alone, 4 also the year, the seconds of the day (sbs) and control functions, 6 the year.
+//! Rows from outside: texts of moments, and the frames from them on.
 
 use irig_codes::{Fields, Format, Kind};
 use irig_moment::Moment;
 use std::process::Abort;
 
-/// A moment, a format (kind and expression), the number of a frame from the moment on, from 0, and
-/// its fields with no control function set.
+/// A moment, a kind, an expression, the number of a frame from the moment on, from 0, and its
+/// fields.
 type Row = (&'static [u8], Kind, u8, u64, Fields);
 
-/// The fields of day 1 at midnight, with no other part. Rows change some of them.
+/// The fields of day 1 at midnight, with no other part.
 const DAY: Fields = Fields {
     hundredths: None,
     seconds: 0,
@@ -23,15 +20,11 @@ const DAY: Fields = Fields {
     control: None,
 };
 
-/// Whether frame `k`, counted from 0 at the moment, has these fields with no control function set
-/// (the 0). False if no frame of the format begins at the moment, or `k` is 10,000 or more: the
-/// contract of `fields` permits neither.
+/// No control function is set (the 0). `fields` asks for a `k` below 10,000.
 fn has_fields(moment: Moment, format: Format, k: u64, fields: &Fields) -> bool {
     moment.starts(format) && k < 10_000 && moment.fields(format, k, 0) == *fields
 }
 
-/// Whether the frame of a row has the fields of the row. False if the text is no moment, or the
-/// format is not permitted.
 fn is_told((text, kind, expression, k, fields): &Row) -> bool {
     match (Moment::parse(text), Format::new(*kind, *expression)) {
         (Some(moment), Ok(format)) => has_fields(moment, format, *k, fields),
@@ -39,15 +32,13 @@ fn is_told((text, kind, expression, k, fields): &Row) -> bool {
     }
 }
 
-/// Asserts that the frame of each row has the fields of the row.
 fn check(rt: &impl Abort, rows: &[Row]) {
     for row in rows {
         assert!(rt; is_told(row));
     }
 }
 
-/// The fields of 12:34:56 on the first of March 2024: day 31 + 29 + 1, and second 12 * 3,600 + 34 *
-/// 60 + 56 of the day.
+/// Day 31 + 29 + 1, and second 12 * 3,600 + 34 * 60 + 56 of the day.
 const NOON: Fields = Fields {
     seconds: 56,
     minutes: 34,
@@ -59,8 +50,7 @@ const NOON: Fields = Fields {
     ..DAY
 };
 
-/// Frames of B: frame 1 is one second after the moment, also over the end of a year. The first two
-/// texts are one moment.
+/// One second later, also over the end of a year. The first two texts are one moment.
 static WHOLE: [Row; 3] = [
     (b"2024-061T12:34:55", Kind::B, 4, 1, NOON),
     (b"2024-03-01T12:34:55", Kind::B, 4, 1, NOON),
@@ -78,14 +68,12 @@ static WHOLE: [Row; 3] = [
     ),
 ];
 
-// Frame 1 of B carries the time one second after the moment.
 #[test]
 fn frames_of_b_tell_the_moment_and_whole_periods(rt: HostRuntime) {
     check(&rt, &WHOLE);
 }
 
-/// Frames of G and A, which have hundredths or tenths of a second: frame 1 of G is one hundredth
-/// after the moment, frame 9 of A nine tenths. 2024 has 366 days.
+/// Frame 1 of G is one hundredth after the moment, frame 9 of A nine tenths. 2024 has 366 days.
 static PARTS: [Row; 2] = [
     (
         b"2024-001T00:00:00",
@@ -114,14 +102,12 @@ static PARTS: [Row; 2] = [
     ),
 ];
 
-// Frames of G carry the hundredths of their time, frames of A the tenths.
 #[test]
 fn frames_of_a_and_g_tell_parts_of_a_second(rt: HostRuntime) {
     check(&rt, &PARTS);
 }
 
-/// Frames of E, which begin every ten seconds; also over the end of a year and of February. A year
-/// is carried as its last two digits.
+/// Ten seconds a frame, also over the end of a year and of February.
 static TENS: [Row; 3] = [
     (
         b"9998-12-31T23:59:50",
@@ -157,15 +143,12 @@ static TENS: [Row; 3] = [
     ),
 ];
 
-// Frame 1 of E carries the time ten seconds after the moment, and frame 9,999 the time 99,990
-// seconds after it.
 #[test]
 fn frames_of_e_tell_whole_ten_seconds(rt: HostRuntime) {
     check(&rt, &TENS);
 }
 
-/// A moment, a kind with expression 2, and whether a frame begins there: each second, or each 10
-/// seconds, tenth or hundredth, from midnight on.
+/// A moment, a kind with expression 2, and whether a frame begins there, counted from midnight.
 static STARTS: [(&[u8], Kind, bool); 6] = [
     (b"2024-001T00:00:05", Kind::E, false),
     (b"2024-001T00:00:10", Kind::E, true),
@@ -175,8 +158,6 @@ static STARTS: [(&[u8], Kind, bool); 6] = [
     (b"2024-061T12:34:55.55", Kind::G, true),
 ];
 
-/// Whether a frame begins at the moment of a row just if the row says so. False if the text is no
-/// moment.
 fn begins((text, kind, want): &(&[u8], Kind, bool)) -> bool {
     match (Moment::parse(text), Format::new(*kind, 2)) {
         (Some(moment), Ok(format)) => moment.starts(format) == *want,
@@ -184,7 +165,6 @@ fn begins((text, kind, want): &(&[u8], Kind, bool)) -> bool {
     }
 }
 
-// A frame begins at a moment if that is a whole number of periods after midnight.
 #[test]
 fn frames_begin_at_whole_periods(rt: HostRuntime) {
     for row in STARTS.iter() {
@@ -192,7 +172,6 @@ fn frames_begin_at_whole_periods(rt: HostRuntime) {
     }
 }
 
-/// Texts of no moment.
 static OTHERS: [&[u8]; 10] = [
     // No leap day in 2023.
     b"2023-02-29T00:00:00",
@@ -209,8 +188,7 @@ static OTHERS: [&[u8]; 10] = [
     b"",
 ];
 
-/// Whether texts of leap days are moments, in both ways to write a date. Day 366 of 2024 is there,
-/// and its day 60 is the same moment as 29 February.
+/// Day 60 of 2024 is 29 February.
 fn are_leap_days() -> bool {
     let day = Moment::parse(b"2024-060T00:00:00");
     Moment::parse(b"2024-366T23:59:59.99").is_some()
@@ -218,8 +196,6 @@ fn are_leap_days() -> bool {
         && day == Moment::parse(b"2024-02-29T00:00:00.00")
 }
 
-// Texts of another form, and of days and times that are not there, are no moments; those of leap
-// days are.
 #[test]
 fn other_texts_are_no_moments(rt: HostRuntime) {
     for text in OTHERS.iter() {

@@ -1,14 +1,9 @@
-//! Frames with the fields that they carry, and what is noted of them. Elements count from 0. The
-//! standard gives each digit of a field four elements at most, of weights 1, 2, 4 and 8, the lowest
-//! first: seconds from 1 on, tens of seconds from 6, minutes 10 and 15, hours 20 and 25, days 30,
-//! 35 and 40. The seconds of the day (sbs) are one binary number: bits 0 to 8 are elements 80 to
-//! 88, and bits 9 to 16 are 90 to 97. A note says what is wrong with a frame; `Fine` is nothing.
+//! Frames with the fields that they carry, and what is noted of them.
 
 use irig_codes::{Element, Fields, Format, Kind, Name, Note, decode, encode, fits};
 
-/// The frame with these elements as ones. Its position identifiers are 0, 9, 19 and so on to 99,
-/// also if `ones` names one of them; all other elements are zeros. A number from 100 on is no
-/// element: it only fills a row.
+/// The frame with these ones, and its position identifiers: 0, 9, 19 and so on to 99. A number from
+/// 100 on is no element: it only fills a row.
 fn frame_with(ones: &[usize]) -> [Element; 100] {
     let mut frame = [Element::Zero; 100];
     for element in 0..100 {
@@ -21,7 +16,7 @@ fn frame_with(ones: &[usize]) -> [Element; 100] {
     frame
 }
 
-/// The fields of day 0 at midnight, with no other part. Rows change some of them.
+/// The fields of day 0 at midnight, with no other part.
 const NOTHING: Fields = Fields {
     hundredths: None,
     seconds: 0,
@@ -33,19 +28,16 @@ const NOTHING: Fields = Fields {
     control: None,
 };
 
-/// A format, the fields of a frame, and its ones. Nothing is wrong with it, so its note is `Fine`.
+/// A format, the fields of a frame, and its ones.
 type Carried = (Kind, u8, Fields, &'static [usize]);
 
-/// Whether the fields are some that the format can carry (`fits`), their frame is `frame`, and from
-/// `frame` the fields are read again, with nothing wrong.
+/// Whether frame and fields give each other, with nothing wrong.
 fn carries(format: Format, fields: &Fields, frame: &[Element; 100]) -> bool {
     fits(format, fields)
         && encode(format, fields) == *frame
         && decode(format, frame) == (*fields, Note::Fine)
 }
 
-/// Whether the fields of a row give the frame with its ones, and the fields are read from that
-/// frame again. False if the format is not permitted.
 fn is_carried((kind, expression, fields, ones): &Carried) -> bool {
     match Format::new(*kind, *expression) {
         Ok(format) => carries(format, fields, &frame_with(ones)),
@@ -53,7 +45,6 @@ fn is_carried((kind, expression, fields, ones): &Carried) -> bool {
     }
 }
 
-/// Frames of B and A, their ones by the weights of the standard. Year: tens from 55, units from 50.
 static FIELDS: [Carried; 2] = [
     (
         Kind::B,
@@ -95,7 +86,6 @@ static FIELDS: [Carried; 2] = [
     ),
 ];
 
-// The fields of each row give a frame with just the ones of the row, and are read from it again.
 #[test]
 fn frames_carry_their_fields_both_ways(rt: HostRuntime) {
     for row in FIELDS.iter() {
@@ -103,8 +93,7 @@ fn frames_carry_their_fields_both_ways(rt: HostRuntime) {
     }
 }
 
-/// Frames of E and G with control functions: one binary number, its lowest bit first, from 50 on in
-/// this E and from 70 on in this G. The times are those of the A above, but for parts of a second.
+/// The control functions are from element 50 on in this E and from 70 on in this G.
 static CONTROLS: [Carried; 2] = [
     (
         Kind::E,
@@ -140,8 +129,6 @@ static CONTROLS: [Carried; 2] = [
     ),
 ];
 
-// The fields of each row, of which some are control functions, give a frame with just the ones of
-// the row, and are read from it again.
 #[test]
 fn frames_carry_their_control_functions_both_ways(rt: HostRuntime) {
     for row in CONTROLS.iter() {
@@ -149,12 +136,9 @@ fn frames_carry_their_control_functions_both_ways(rt: HostRuntime) {
     }
 }
 
-/// An expression of B (2 carries the time alone, 3 also the seconds of the day), the ones of a
-/// frame, the fields that are read of it, and what is noted.
+/// An expression of B, the ones of a frame, the fields that are read of it, and what is noted.
 type Noted = (u8, &'static [usize], Fields, Note);
 
-/// Frames with one thing wrong: a day 0, units of the seconds above 9, a one at an element that
-/// carries nothing, and seconds of the day that are not those of the time.
 static NOTED: [Noted; 4] = [
     // No ones: day 0, which no year has.
     (2, &[100, 100, 100], NOTHING, Note::Field(Name::Days)),
@@ -189,7 +173,6 @@ static NOTED: [Noted; 4] = [
     ),
 ];
 
-/// Whether a frame of B with the ones of a row is read as the fields and the note of the row.
 fn is_noted((expression, ones, fields, note): &Noted) -> bool {
     match Format::new(Kind::B, *expression) {
         Ok(format) => decode(format, &frame_with(ones)) == (*fields, *note),
@@ -197,8 +180,6 @@ fn is_noted((expression, ones, fields, note): &Noted) -> bool {
     }
 }
 
-// Each frame is read as the fields of its row, also those that are wrong, with a note of what is
-// wrong.
 #[test]
 fn what_is_wrong_with_a_frame_is_noted(rt: HostRuntime) {
     for row in NOTED.iter() {

@@ -1,5 +1,4 @@
-//! Dumps that carry a journal in a comment: one after the declarations whose first word is
-//! `irig-journal-1`. The journal is its text from that word up to `$end`, white space included.
+//! Dumps that carry a journal: a comment after the declarations that begins with `irig-journal-1`.
 
 ghost use Rattle.std.specs.Prelude.{◌≤◌, ◌^◌, length};
 
@@ -8,9 +7,7 @@ use super::{HEADER, Row, check_rows, is_right, put_texts};
 use irig_vcd::{VcdFault, read_parts};
 use std::alloc::Global;
 
-/// Whether a dump, of at most 2^28 bytes, gives the journal that is wanted. If `want` is `None`,
-/// whether it gives the fault of a second journal: `BadJournal` at line 1. False for any other
-/// fault.
+/// If `want` is `None`, whether there is the fault of a second journal, which is at line 1.
 fn gives(alloc: Global, dump: &[u8], want: Option<&[u8]>) -> bool
     requires { length dump.now ≤ 2 ^ 28 }
 {
@@ -20,8 +17,6 @@ fn gives(alloc: Global, dump: &[u8], want: Option<&[u8]>) -> bool
     }
 }
 
-/// Whether the dump of these changes gives the journal that is wanted, or the fault of a second one
-/// if `want` is `None`. False if memory runs out.
 fn is_right_journal(alloc: Global, changes: &str, want: Option<&[u8]>) -> bool {
     let mut dump = Vec::new(alloc);
     put_texts(&mut dump, &[HEADER, changes])
@@ -29,7 +24,7 @@ fn is_right_journal(alloc: Global, changes: &str, want: Option<&[u8]>) -> bool {
         && gives(alloc, dump.as_slice(), want)
 }
 
-/// Changes with a comment, and the journal in it.
+/// Changes with a comment, and the journal in it: its text up to `$end`, white space included.
 static JOURNALS: [(&str, &[u8]); 4] = [
     ("#5 $comment irig-journal-1 $end", b"irig-journal-1 "),
     (
@@ -49,7 +44,6 @@ static JOURNALS: [(&str, &[u8]); 4] = [
     ),
 ];
 
-// Each dump gives its journal, the text from its first word up to `$end`.
 #[test]
 fn one_journal_is_given(rt: HostRuntime) {
     for (changes, journal) in JOURNALS.iter() {
@@ -79,21 +73,17 @@ const BEFORE: &[u8] =
     b"$comment irig-journal-1 $end $timescale 1 us $end $var wire 1 ! c $end $enddefinitions $end \
     #5";
 
-// Each dump is read as its row says, without a journal: its comments are none, or another fault
-// comes first.
 #[test]
 fn other_comments_are_no_journal(rt: HostRuntime) {
     check_rows(&rt, rt.alloc(), &OTHERS);
     assert!(rt; is_right(rt.alloc(), BEFORE, None, &Edges(5, &[])));
 }
 
-/// Changes with two journals.
 static SECOND: [&str; 2] = [
     "$comment irig-journal-1 $end $comment irig-journal-1 $end",
     "$comment irig-journal-1 a $end #5 $comment b $end $comment irig-journal-1 c $end #6",
 ];
 
-// A dump with two journals has the fault V13, `BadJournal`, at line 1.
 #[test]
 fn a_second_journal_is_told(rt: HostRuntime) {
     for changes in SECOND.iter() {

@@ -1,5 +1,4 @@
-//! Recordings, tokens and faults by themselves. Lengths and edges are in microseconds. A token is a
-//! run of bytes that are no white space.
+//! Recordings, tokens and faults by themselves.
 
 use crate::edges::have_edges;
 use irig_recording::Recording;
@@ -9,8 +8,8 @@ use std::alloc::Global;
 /// A length and edges, and whether they make a recording.
 type Row = (u64, &'static [u64], bool);
 
-/// Edges that are a recording, and others: past the length, touching (a rise at the last fall), a
-/// rise alone, a length above 2^40 microseconds.
+/// A recording, and edges past the length, touching (a rise at the last fall), a rise alone;
+/// lengths of 2^40 and above.
 static EDGES: [Row; 6] = [
     (9, &[1, 2, 3, 9], true),
     (8, &[1, 2, 3, 9], false),
@@ -20,16 +19,13 @@ static EDGES: [Row; 6] = [
     (1099511627777, &[], false),
 ];
 
-/// Whether a recording has this length and these edges, both in the pulses that `pulses` lends and
-/// in those that `into_pulses` gives away.
+/// Both in the pulses that `pulses` lends and in those that `into_pulses` gives away.
 fn gives(recording: Recording, length: u64, edges: &[u64]) -> bool {
     recording.length() == length
         && have_edges(recording.pulses(), edges)
         && have_edges(&recording.into_pulses(), edges)
 }
 
-/// Whether the length and the edges of a row make a recording that has them, or make none, as the
-/// row says. False if memory runs out.
 fn is_answered(alloc: Global, (length, edges, accepted): &Row) -> bool {
     match Recording::new(alloc, *length, edges) {
         Ok(Some(recording)) => *accepted && gives(recording, *length, edges),
@@ -38,7 +34,6 @@ fn is_answered(alloc: Global, (length, edges, accepted): &Row) -> bool {
     }
 }
 
-// Edges in order within the length, of at most 2^40 microseconds, make a recording; others do not.
 #[test]
 fn edges_that_make_no_recording_give_none(rt: HostRuntime) {
     for row in EDGES.iter() {
@@ -57,8 +52,6 @@ static TOKENS: [(Kind, &[u8], usize); 7] = [
     (Kind::Other, b"U", 24),
 ];
 
-/// Whether the next token is of a kind, has these bytes, and is at a place in bytes from 0. False
-/// if no token is left.
 fn is_next(tokens: &mut Tokens<'_>, (kind, slice, offset): &(Kind, &[u8], usize)) -> bool {
     match tokens.next() {
         Some(token) => token.kind == *kind && token.slice == *slice && token.offset == *offset,
@@ -66,12 +59,10 @@ fn is_next(tokens: &mut Tokens<'_>, (kind, slice, offset): &(Kind, &[u8], usize)
     }
 }
 
-/// Whether no token is left.
 fn is_end(tokens: &mut Tokens<'_>) -> bool {
     tokens.next().is_none()
 }
 
-// The tokens of a text come in order, each with its kind and its place; then none is left.
 #[test]
 fn tokens_with_their_places(rt: HostRuntime) {
     // A space, a tab, a line end of two bytes and a vertical tab are all white space.
@@ -82,7 +73,7 @@ fn tokens_with_their_places(rt: HostRuntime) {
     assert!(rt; is_end(&mut tokens));
 }
 
-/// Faults, and their texts: an offset in bytes is shown, the line of a journal is not.
+/// Faults, and their texts in `docs/FORMATS.md`, without the line of a journal.
 static FAULTS: [(VcdFault, &str); 14] = [
     (VcdFault::Unclosed, "V1 Unclosed"),
     (VcdFault::NoTimescale, "V2 NoTimescale"),
@@ -100,7 +91,6 @@ static FAULTS: [(VcdFault, &str); 14] = [
     (VcdFault::OutOfMemory, "V14 OutOfMemory"),
 ];
 
-/// Whether a fault is printed as this text. False if memory runs out.
 fn has_text(alloc: Global, fault: VcdFault, text: &str) -> bool {
     match format!(in alloc; "{fault}") {
         Ok(told) => told.as_str() == text,
@@ -108,7 +98,6 @@ fn has_text(alloc: Global, fault: VcdFault, text: &str) -> bool {
     }
 }
 
-// Each fault is printed as the text of its row, which is the one in `docs/FORMATS.md`.
 #[test]
 fn faults_have_their_texts(rt: HostRuntime) {
     for (fault, text) in FAULTS.iter() {

@@ -1,18 +1,16 @@
-//! Pulses in units of less than a microsecond, and of more: they are read in one step or token by
-//! token, and say the same. Times are rounded down to whole microseconds. Two edges in the same
-//! microsecond cancel out.
+//! Pulses in units of less than a microsecond, and of more, in one step or token by token.
 
 use super::Wanted::{self, Edges, Fault};
 use super::are_right;
 use irig_vcd::VcdFault;
 use std::alloc::Global;
 
-/// A comment that says nothing. Pulses with that many bytes after them are read in one step; with
-/// fewer than 64 bytes after their begin they are read token by token.
+/// Pulses with that many bytes after them are read in one step; with fewer than 64 bytes after
+/// their begin they are read token by token.
 const COMMENT: &str =
     "$comment ................................................................ $end\n";
 
-/// A pulse from 1 to 2 microseconds in nanoseconds. Those after it are read in one step.
+/// A pulse from 1 to 2 microseconds. Those after it are read in one step.
 const FIRST: &str = "#1000\n1!\n#2000\n0!\n";
 
 /// Changes in nanoseconds after that pulse, and what the dump is to be read as. Each line of a time
@@ -123,7 +121,6 @@ static UNITS: [(&str, &str, Wanted); 10] = [
         Edges(3, &[1, 3]),
     ),
     (
-        // units of more than a microsecond
         "10 us",
         "#1\n1!\n#2\n0!\n#3\n1!\n#4\n0!\n#5\n1!\n#6\n0!\n",
         Edges(60, &[10, 20, 30, 40, 50, 60]),
@@ -135,20 +132,16 @@ static UNITS: [(&str, &str, Wanted); 10] = [
     ),
 ];
 
-/// The declarations of a wire after the unit, before the changes.
 const WIRE: &str = " $end\n$var wire 1 ! c $end\n$enddefinitions $end\n";
 
-/// Whether the dump of a wire in a unit is read as `want` says, alone and with the comment after
-/// it. `first` and `second` are its changes, one after the other. With the comment pulses are read
-/// in one step, without it the last ones token by token.
+/// Whether two dumps are right: pulses are read in one step with the comment after them, and
+/// without it the last ones token by token.
 fn are_right_in(alloc: Global, unit: &str, first: &str, second: &str, want: &Wanted) -> bool {
     let short = ["$timescale ", unit, WIRE, first, second];
     let longer = ["$timescale ", unit, WIRE, first, second, COMMENT];
     are_right(alloc, &short, want) && are_right(alloc, &longer, want)
 }
 
-// Each dump is a first pulse and the changes of a row, in nanoseconds. Both ways to read it give
-// what the row says, worked out by hand.
 #[test]
 fn pulses_in_nanoseconds(rt: HostRuntime) {
     for (changes, want) in NANOSECONDS.iter() {
@@ -156,8 +149,6 @@ fn pulses_in_nanoseconds(rt: HostRuntime) {
     }
 }
 
-// Each dump is the changes of a row, in its unit. Both ways to read it give what the row says,
-// worked out by hand.
 #[test]
 fn pulses_in_other_units(rt: HostRuntime) {
     for (unit, changes, want) in UNITS.iter() {

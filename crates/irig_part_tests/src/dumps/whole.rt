@@ -1,12 +1,10 @@
-//! Dumps, by hand from the format and from what simulators write. Lengths and edges are in
-//! microseconds, rounded down; edges in the same microsecond cancel out. Offsets are in bytes from
-//! 0.
+//! Dumps, by hand from the format and from what simulators write.
 
 use super::Wanted::{self, Edges, Fault};
 use super::{Row, check_rows, is_right};
 use irig_vcd::VcdFault;
 
-/// A dump of two pulses, whose last time line sets the length.
+/// The last time line sets the length.
 const TWO_PULSES: &str = "$timescale 1 us $end
 $var wire 1 ! code $end
 $enddefinitions $end
@@ -17,8 +15,7 @@ $enddefinitions $end
 #1000
 ";
 
-/// A dump as a simulator writes it: in picoseconds, with another variable of eight bits, whose
-/// values are skipped. `x` is low.
+/// In picoseconds, with another variable of eight bits, whose values are skipped; `x` is low.
 const SIMULATED: &str = "$date today $end $version a simulator $end
 $timescale
  1ps
@@ -68,7 +65,6 @@ static WHOLE: [(&str, Option<&[u8]>, Wanted); 17] = [
         Fault(VcdFault::BadTimescale),
     ),
     ("$var wire one ! c $end", None, Fault(VcdFault::BadVar)),
-    // Not a section.
     ("META samplerate: 1", None, Fault(VcdFault::BadToken(0))),
     (
         // Without a time the length is 0.
@@ -102,8 +98,6 @@ static WHOLE: [(&str, Option<&[u8]>, Wanted); 17] = [
     ),
 ];
 
-// Each dump of `WHOLE`, by hand or as a simulator writes it, is read as its row says, or has the
-// fault of the row.
 #[test]
 fn whole_dumps(rt: HostRuntime) {
     for (dump, wire, want) in WHOLE.iter() {
@@ -111,7 +105,7 @@ fn whole_dumps(rt: HostRuntime) {
     }
 }
 
-/// Changes of each form, and what the dump is to be read as. They begin at byte 63.
+/// Changes of each form, from byte 63 on, and what the dump is to be read as.
 static CHANGES: [Row; 13] = [
     // A value without a code.
     ("1", Fault(VcdFault::BadToken(63))),
@@ -132,8 +126,7 @@ static CHANGES: [Row; 13] = [
     // The last bit of a vector counts; a real and a text give no level.
     ("#1 b0101 ! #2 bx10 ! r1.5 ! sH ! #3", Edges(3, &[1, 2])),
     (
-        // A time within a comment is none. Rise and fall at 1 cancel out; a pulse ends at the
-        // length.
+        // A time within a comment is none. Rise and fall at 1 cancel out.
         "#1 1! $comment #0 $end $dumpoff x! $end #4 $dumpon 1! $end #6",
         Edges(6, &[4, 6]),
     ),
@@ -142,20 +135,17 @@ static CHANGES: [Row; 13] = [
     ("#1 1! #2 U!", Fault(VcdFault::BadToken(72))),
 ];
 
-// Each dump is the header, 63 bytes, and the changes of a row: it is read as the row says, or has
-// the fault of the row at its byte.
 #[test]
 fn changes_behind_a_header(rt: HostRuntime) {
     check_rows(&rt, rt.alloc(), &CHANGES);
 }
 
-/// A dump of three wires. One has a code that is the reference of another.
+/// One has a code that is the reference of another.
 const THREE_WIRES: &[u8] =
     b"$timescale 1 us $end $var wire 1 ! c $end $var wire 1 \" d $end $var wire 1 # ! $end \
     $enddefinitions $end #1 1! #2 1\" #3 1# #4";
 
-/// The wire that is asked for, and what that dump is to be read as: a reference counts before a
-/// code, so `!` is the third wire. Each wire rises once, and its pulse ends at the length.
+/// A reference counts before a code, so `!` is the third wire. Each pulse ends at the length.
 static WIRES: [(Option<&[u8]>, Wanted); 6] = [
     (None, Fault(VcdFault::ManyWires)),
     (Some(b"q"), Fault(VcdFault::NoSuchWire)),
@@ -165,8 +155,6 @@ static WIRES: [(Option<&[u8]>, Wanted); 6] = [
     (Some(b"!"), Edges(4, &[3, 4])),
 ];
 
-// A wire is asked for by its reference, or by its code if no reference is that. Without a name the
-// three wires are too many.
 #[test]
 fn wires_by_reference_and_by_code(rt: HostRuntime) {
     for (wire, want) in WIRES.iter() {
@@ -174,14 +162,14 @@ fn wires_by_reference_and_by_code(rt: HostRuntime) {
     }
 }
 
-/// How many bytes of the dump of two pulses are left, and what they are to be read as. Its lines
-/// end after 21, 45, 66, 74, 82, 90, 98 and 104 bytes.
+/// How many bytes of `TWO_PULSES` are left, whose lines end after 21, 45, 66, 74, 82, 90, 98 and
+/// 104 bytes, and what they are to be read as.
 static TORN: [(usize, Wanted); 6] = [
     // Within the first section.
     (15, Fault(VcdFault::Unclosed)),
     // After the second section.
     (45, Fault(VcdFault::NoEndDefinitions)),
-    // After the rise at 200, which is the length then, so that it makes no pulse.
+    // The length is 200 then, so that the rise there makes no pulse.
     (90, Edges(200, &[100, 120])),
     // The last time line is `#`, then `#28`, then `#280`.
     (91, Fault(VcdFault::BadToken(90))),
@@ -189,8 +177,6 @@ static TORN: [(usize, Wanted); 6] = [
     (94, Edges(280, &[100, 120, 200, 280])),
 ];
 
-// Each dump is the first bytes of the dump of two pulses, as many as its row says. It is read as
-// what is left of it, or has a fault.
 #[test]
 fn a_torn_dump_says_what_is_left(rt: HostRuntime) {
     for (len, want) in TORN.iter() {

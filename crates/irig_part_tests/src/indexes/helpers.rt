@@ -1,9 +1,4 @@
-//! Tracks of format G, expression 2, their edits, and indexes that are kept next to them. An index
-//! has a record of each frame: its marker and what it says. A marker is a position identifier right
-//! after another one. Times are in microseconds, pulses count from 0. A sound frame is one that is
-//! read without a fault. A look is one reading of a pulse; a lens shows the pulses of a track to an
-//! index, and counts the looks. To repair an index is to read only what is near an edit, to rebuild
-//! it to read all. Memory that runs out is an error, or false.
+//! Tracks of format G, expression 2, their edits, and indexes that are kept next to them.
 
 ghost use Rattle.std.specs.Prelude.{◌≡◌, ◌<◌, ◌≤◌, IfOk, OnOk, MatchOption, IsTrue};
 ghost use Rattle.irig_index.specs.Frames.{frames};
@@ -17,27 +12,24 @@ use irig_track::{Lens, Span, Track};
 use std::alloc::{AllocError, Global};
 use std::process::Abort;
 
-/// What is done to a track.
 #[derive(Clone, Copy)]
 pub(crate) enum Edit {
-    /// The level is inverted from the first time to the second.
+    /// From the first time to the second.
     Invert(u64, u64),
-    /// One pulse is moved, by this many microseconds.
+    /// One pulse, and how far it moves.
     Move(usize, i64),
-    /// From the first pulse on, this many are removed.
+    /// The first pulse, and how many go.
     Cut(usize, usize),
 }
 
-/// The format G, expression 2.
 pub(crate) fn format_g(rt: &impl Abort) -> Format {
     Format::new(Kind::G, 2)
         .ok()
         .expect(rt, "G permits expression 2")
 }
 
-/// The width, in microseconds, of an element of a frame of day 1, 00:00:00.01 if `hundredths` is 1,
-/// 00:00:00.00 if it is any other number: 80 for a position identifier, 50 for a 1, 20 for a 0. The
-/// units of the day are elements 30 to 33, those of the hundredths 50 to 53.
+/// In a frame of day 1, 00:00:00.01 if `hundredths` is 1, else 00:00:00.00. The units of the day
+/// are elements 30 to 33, those of the hundredths 50 to 53.
 fn width(hundredths: u64, element: u64) -> u64
     ensures { result < 100 }
 {
@@ -50,8 +42,7 @@ fn width(hundredths: u64, element: u64) -> u64
     }
 }
 
-/// A track of this many pulses, at most 1,000,000, which are 100 microseconds apart, the interval
-/// of G: of sound frames, or all position identifiers.
+/// Pulses 100 apart, the interval of G: of sound frames, or all position identifiers.
 fn pulses(alloc: Global, count: u64, are_sound: bool) -> Result<Track, AllocError>
     requires { count ≤ 1000000 }
 {
@@ -64,21 +55,19 @@ fn pulses(alloc: Global, count: u64, are_sound: bool) -> Result<Track, AllocErro
     track_of(alloc, 100 * count, edges.as_slice())
 }
 
-/// This many pulses of sound frames, at most 1,000,000: element e of frame k rises at (100 k + e) *
-/// 100.
+/// Element e of frame k rises at (100 k + e) * 100.
 pub(crate) fn sound(alloc: Global, count: u64) -> Result<Track, AllocError>
     requires { count ≤ 1000000 }
 {
     pulses(alloc, count, true)
 }
 
-/// Eight position identifiers in step: all but the first are markers, as each has one before it.
+/// Eight in step: all but the first are markers, as each has one before it.
 pub(crate) fn positions(alloc: Global) -> Result<Track, AllocError> {
     pulses(alloc, 8, false)
 }
 
-/// Removes `count` pulses from `at` on, from 0, if they are there, and returns the place (`Span`);
-/// else `None`, and nothing changes. An error also leaves the track as it was.
+/// An error also leaves the track as it was.
 fn cut(
     alloc: Global,
     track: &mut Track,
@@ -98,8 +87,7 @@ fn cut(
     Ok(Some(track.splice(at, count, &mut put, &mut taken)))
 }
 
-/// Makes an edit, if it can be made, and returns its place (`Span`: the first pulse, how many went
-/// and how many came); else `None`. An inversion can make one pulse more, so there is room for one.
+/// An inversion can make one pulse more, so there is room for one.
 fn make(alloc: Global, track: &mut Track, edit: Edit) -> Result<Option<Span>, AllocError>
     ensures micros { OnOk result (track.new.micros ≡ track.old.micros) }
     ensures span { IfOk result (λ made. MatchOption made (track.new.pulses ≡ track.old.pulses)
@@ -116,9 +104,8 @@ fn make(alloc: Global, track: &mut Track, edit: Edit) -> Result<Option<Span>, Al
     }
 }
 
-/// The edit that reverses an edit: an inversion again, or a move by as much the other way. A
-/// removal cannot be reversed so, and is given back as it is. `wrapping_sub` saves a proof that a
-/// move is not by -2^63.
+/// The edit that reverses an edit; a removal is given back as it is. `wrapping_sub` saves a proof
+/// that a move is not by -2^63.
 pub(crate) fn back(edit: Edit) -> Edit {
     match edit {
         Edit::Move(pulse, by) => Edit::Move(pulse, 0i64.wrapping_sub(by)),
@@ -126,9 +113,8 @@ pub(crate) fn back(edit: Edit) -> Edit {
     }
 }
 
-/// Makes an edit, if it can be made, and then repairs the index; before the repair the index gets
-/// room for all frames that there are now. False if memory runs out, or the repair made too many
-/// looks (`took_few`). True also if the edit cannot be made: nothing changes then.
+/// Whether an index with room for all frames that there are now is repaired with few looks after an
+/// edit (`took_few`); true also if the edit cannot be made.
 pub(crate) fn repairs(
     alloc: Global,
     track: &mut Track,
@@ -147,7 +133,6 @@ pub(crate) fn repairs(
     let Some(span) = made else {
         return true;
     };
-    // The count is not used: the contract of the call bounds the pulses.
     let _after = track.len();
     let before = index.looks();
     let count = Index::count(&mut track.lens(), format);
@@ -159,17 +144,15 @@ pub(crate) fn repairs(
     took_few(&lens, index, before, span.new)
 }
 
-/// Whether a repair took few looks for the pulses that came: three at most for each of them, and
-/// for each of 200 around them, as a frame that an edit touches is within a hundred pulses before
-/// and after it. Also whether the index counted each look; `before` is its count before the repair.
-/// No number here is near 2^64: the saturating and wrapping calls only save the proof of that.
+/// Whether the index counted each look, at most three for each pulse that came and for each of 200
+/// around them: a frame that an edit touches is within a hundred pulses before and after it. The
+/// saturating and wrapping calls only save a proof.
 fn took_few(lens: &Lens<'_>, index: &Index, before: u64, came: usize) -> bool {
     let most = (came as u64).saturating_add(200).saturating_mul(3);
     lens.looks() <= most && index.looks().wrapping_sub(before) == lens.looks()
 }
 
-/// Makes the index that of the track, by reading the whole of it. False if memory runs out; then
-/// the index stays as it was.
+/// If memory runs out the index stays as it was.
 pub(crate) fn rebuilds(index: &mut Index, track: &Track, format: Format) -> bool {
     let mut lens = track.lens();
     let count = Index::count(&mut lens, format);
@@ -180,7 +163,6 @@ pub(crate) fn rebuilds(index: &mut Index, track: &Track, format: Format) -> bool
     true
 }
 
-/// Whether the index holds these records and no others.
 pub(crate) fn holds(index: &Index, records: &[Record]) -> bool {
     if index.len() != records.len() {
         return false;
@@ -193,7 +175,6 @@ pub(crate) fn holds(index: &Index, records: &[Record]) -> bool {
     true
 }
 
-/// Whether two indexes hold the same records.
 pub(crate) fn same(one: &Index, other: &Index) -> bool {
     if one.len() != other.len() {
         return false;

@@ -1,5 +1,4 @@
-//! What a growth that is refused leaves of a track and its index: run with each growth refused in
-//! turn, by `tests/no_memory`.
+//! What a growth that is refused leaves of a track and its index, for `tests/no_memory`.
 
 use super::helpers::positions;
 use irig_codes::{Format, Kind};
@@ -7,8 +6,7 @@ use irig_index::Index;
 use irig_track::Track;
 use std::alloc::Global;
 
-/// The index of a track, in format G, expression 2; a refused growth is asked for again, which
-/// succeeds, as one growth is refused in a run. `None` if memory really runs out.
+/// A refused growth is asked for again, which succeeds, as one is refused in a run.
 fn built(alloc: Global, track: &Track) -> Option<Index> {
     let format = Format::new(Kind::G, 2).ok()?;
     match Index::build(alloc, &mut track.lens(), format) {
@@ -17,8 +15,7 @@ fn built(alloc: Global, track: &Track) -> Option<Index> {
     }
 }
 
-/// Whether there are eight pulses, and pulse k, from 0, rises from 100 k microseconds on, before
-/// 100 k + 100.
+/// Whether pulse k rises from 100 k microseconds on, before 100 k + 100.
 fn has_pulses(track: &Track) -> bool {
     for k in 0..track.len() {
         if track.pulse(k).rise / 100 != k as u64 {
@@ -28,8 +25,7 @@ fn has_pulses(track: &Track) -> bool {
     track.len() == 8
 }
 
-/// Whether the index has the records of seven markers: each of eight pulses but the first, as each
-/// of these is a position identifier after another one.
+/// Whether each of the eight pulses but the first is a marker.
 fn has_markers(index: &Index) -> bool {
     for k in 0..index.len() {
         if index.record(k).marker != k + 1 {
@@ -39,17 +35,13 @@ fn has_markers(index: &Index) -> bool {
     index.len() == 7
 }
 
-/// Whether the track makes room for 100 more pulses, and the index for 100 more records. If one of
-/// them runs out of memory, the same call has to succeed when it is made again; and the error has
-/// to leave the room that the index had.
+/// Whether both have room for 100 more in the end, and an error leaves the room that the index had.
 fn both_reserve(track: &mut Track, index: &mut Index) -> bool {
     let room = index.room();
     (track.reserve(100).is_ok() || track.reserve(100).is_ok())
         && (index.reserve(100).is_ok() || index.room() == room && index.reserve(100).is_ok())
 }
 
-/// Whether pulses and frames are as they were after track and index have made room, as
-/// `both_reserve` says.
 fn are_kept(alloc: Global, track: &mut Track) -> bool {
     match built(alloc, track) {
         Some(mut index) => {
@@ -59,8 +51,7 @@ fn are_kept(alloc: Global, track: &mut Track) -> bool {
     }
 }
 
-// A call that runs out of memory leaves pulses and frames, and then succeeds. If memory runs out
-// for the track itself, nothing is tested in that run.
+// If memory runs out for the track itself, nothing is tested in that run.
 #[test]
 fn a_refused_call_leaves_pulses_and_frames(rt: HostRuntime) {
     if let Ok(mut track) = positions(rt.alloc()) {

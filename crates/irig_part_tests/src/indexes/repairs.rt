@@ -1,9 +1,4 @@
-//! Repairs against indexes that are built from nothing. An index has a record of each frame of a
-//! track; to repair it is to read only what is near an edit. A lens (`lens`) shows the pulses of a
-//! track to an index. An edit agrees if an index that is repaired after it is the same as one that
-//! is built from nothing. An edit that cannot be made changes nothing, and agrees. Format G has an
-//! interval of 100 microseconds. Pulses of the short track are 80 microseconds wide, and all are
-//! position identifiers. If memory runs out, the answer is false.
+//! Repairs against indexes that are built from nothing.
 
 ghost use Rattle.std.specs.Prelude.{◌≡◌, IsTrue};
 ghost use Rattle.irig_index.specs.Frames.{frames};
@@ -14,8 +9,7 @@ use irig_index::Index;
 use irig_track::Track;
 use std::alloc::Global;
 
-/// Makes an edit, if it can be made, and repairs the index. Whether the repair took few looks, and
-/// an index of the track that is built from nothing is the same.
+/// Whether the repair after an edit takes few looks, and a new index of the track is the same.
 fn agrees(alloc: Global, track: &mut Track, index: &mut Index, format: Format, edit: Edit) -> bool
     requires { index.old.records ≡ frames format track.old.pulses }
     ensures { IsTrue result → index.new.records ≡ frames format track.new.pulses }
@@ -23,7 +17,6 @@ fn agrees(alloc: Global, track: &mut Track, index: &mut Index, format: Format, e
     repairs(alloc, track, index, format, edit) && is_built_so(alloc, track, index, format)
 }
 
-/// Whether an index of the track that is built from nothing is the same; false if memory runs out.
 fn is_built_so(alloc: Global, track: &Track, index: &Index, format: Format) -> bool {
     match Index::build(alloc, &mut track.lens(), format) {
         Ok(built) => same(index, &built),
@@ -31,7 +24,7 @@ fn is_built_so(alloc: Global, track: &Track, index: &Index, format: Format) -> b
     }
 }
 
-/// Whether each edit in turn agrees, made on what the edits before it left.
+/// Each edit is made on what the edits before it left.
 fn each_agrees(
     alloc: Global,
     track: &mut Track,
@@ -49,8 +42,6 @@ fn each_agrees(
     true
 }
 
-/// Whether each of these edits in turn agrees, on this track and an index that is built of it
-/// first.
 fn all_agree(alloc: Global, track: &mut Track, format: Format, edits: &[Edit]) -> bool {
     match Index::build(alloc, &mut track.lens(), format) {
         Ok(mut index) => each_agrees(alloc, track, &mut index, format, edits),
@@ -58,7 +49,7 @@ fn all_agree(alloc: Global, track: &mut Track, format: Format, edits: &[Edit]) -
     }
 }
 
-/// Whether these edits in turn agree, on a new short track, of eight pulses.
+/// The short track has eight position identifiers, 80 wide.
 fn short_agrees(alloc: Global, format: Format, edits: &[Edit]) -> bool {
     match positions(alloc) {
         Ok(mut track) => all_agree(alloc, &mut track, format, edits),
@@ -66,7 +57,7 @@ fn short_agrees(alloc: Global, format: Format, edits: &[Edit]) -> bool {
     }
 }
 
-/// Whether these edits in turn agree, on a new track of four sound frames.
+/// Four sound frames.
 fn long_agrees(alloc: Global, format: Format, edits: &[Edit]) -> bool {
     match sound(alloc, 400) {
         Ok(mut track) => all_agree(alloc, &mut track, format, edits),
@@ -74,14 +65,12 @@ fn long_agrees(alloc: Global, format: Format, edits: &[Edit]) -> bool {
     }
 }
 
-/// Whether an edit of a new short track agrees, and so does the edit that reverses it (`back`).
 fn both_ways(alloc: Global, format: Format, edit: Edit) -> bool {
     short_agrees(alloc, format, &[edit, back(edit)])
 }
 
-// Each inversion from one multiple of 20 microseconds (0 to 780) to another (20 to 800), which is
-// the length of the short track. All edges of the track are at such multiples. An inversion whose
-// end is not after its begin cannot be made.
+// All edges are at multiples of 20 microseconds, from 0 to the length, 800. An inversion whose end
+// is not after its begin cannot be made.
 #[test]
 fn an_inversion_at_each_place_of_a_short_track(rt: HostRuntime) {
     let format = format_g(&rt);
@@ -91,11 +80,10 @@ fn an_inversion_at_each_place_of_a_short_track(rt: HostRuntime) {
     }
 }
 
-/// The distances of the moves, in microseconds. Between two pulses are 20, so 19 is the most, and
-/// -20 and -90 cannot be made. A pulse is in step if it is at most 10 away from its place.
+/// Distances in microseconds. Between two pulses are 20, so 19 is the most, and -20 and -90 cannot
+/// be made. A pulse is in step if it is at most 10 away from its place.
 static MOVES: [i64; 7] = [-90, -20, -10, -1, 1, 10, 19];
 
-// Each of the eight pulses is moved by each distance, and back.
 #[test]
 fn a_move_at_each_place_of_a_short_track(rt: HostRuntime) {
     let format = format_g(&rt);
@@ -106,7 +94,7 @@ fn a_move_at_each_place_of_a_short_track(rt: HostRuntime) {
     }
 }
 
-// From each of the eight pulses on, 1 to 8 pulses are cut. If there are fewer, nothing can be cut.
+// From each of the eight pulses on, 1 to 8 pulses are cut, if they are there.
 #[test]
 fn a_cut_at_each_place_of_a_short_track(rt: HostRuntime) {
     let format = format_g(&rt);
@@ -116,8 +104,7 @@ fn a_cut_at_each_place_of_a_short_track(rt: HostRuntime) {
     }
 }
 
-// In each 100 microseconds of four frames an inversion makes one pulse more, from 84 to 88: the
-// pulse there takes at most the first 80, so the level is low. The second edit, the same inversion,
+// The pulse there takes at most 80 of each 100 microseconds, so 84 to 88 is low. The second edit
 // undoes the first.
 #[test]
 fn a_pulse_more_at_each_place_of_four_frames(rt: HostRuntime) {
@@ -134,7 +121,6 @@ const NEAR: Edit = Edit::Invert(84, 88);
 /// A pulse more near their end: after the last one, which rises at 39,900.
 const FAR: Edit = Edit::Invert(39_984, 39_988);
 
-/// Edits of four frames that are made in turn.
 static TURNS: [&[Edit]; 6] = [
     // At both ends, and far apart in turn.
     &[NEAR, FAR, NEAR, FAR],
@@ -145,11 +131,9 @@ static TURNS: [&[Edit]; 6] = [
     &[FAR, Edit::Cut(50, 200), NEAR],
     // All goes, and a pulse comes into the empty track.
     &[Edit::Cut(0, 400), NEAR, FAR, NEAR],
-    // What is not there does not go.
     &[Edit::Cut(400, 1), NEAR],
 ];
 
-// The edits of each row are made one after another on a track of four frames.
 #[test]
 fn edits_in_turn(rt: HostRuntime) {
     let format = format_g(&rt);

@@ -1,8 +1,4 @@
-//! The rows: edits and steps, groups, and groups that are given up. A row is a call and its reply;
-//! then what is left: the bytes, the cursor, how many steps back and forward, how many turns so
-//! far, and how many bytes the steps back and forward hold. A step back of a pop holds the byte for
-//! its push, one of a push none. Each step turns once, a group once for each of its changes. An
-//! undo gives the cursor back that was there before the edit.
+//! The rows: edits and steps, groups, and groups that are given up.
 
 use super::{Call, Reply, Row, check};
 use crate::stack::Stack;
@@ -14,16 +10,13 @@ const NO_STEP_BACK: Reply = Reply::Refused(JournalFault::NothingToUndo);
 
 const NO_STEP_ON: Reply = Reply::Refused(JournalFault::NothingToRedo);
 
-/// A `begin` in an open group.
 const OPEN: Reply = Reply::Refused(JournalFault::GroupOpen);
 
-/// An `end` or an `abort` without a `begin`.
 const NONE_OPEN: Reply = Reply::Refused(JournalFault::NoGroup);
 
 /// The undo would go back past the `begin` of the open group.
 const AT_FLOOR: Reply = Reply::Refused(JournalFault::GroupFloor);
 
-/// Edits, undos and redos.
 static STATES: [Row; 23] = [
     (Call::Undo, NO_STEP_BACK, b"", 0, 0, 0, 0, (0, 0)),
     (Call::Redo, NO_STEP_ON, b"", 0, 0, 0, 0, (0, 0)),
@@ -52,9 +45,8 @@ static STATES: [Row; 23] = [
     (Call::Redo, NO_STEP_ON, b"ac", 3, 2, 0, 14, (0, 0)),
 ];
 
-// Each undo and each redo gives back the bytes and the cursor of the state that it leads to. The
-// four calls at the end are laws of a journal, and do nothing as they run. That they can be called
-// for a stack shows that they hold of it.
+// The four calls at the end are laws of a journal, and do nothing as they run. That they can be
+// called for a stack shows that they hold of it.
 #[test]
 fn a_journal_is_the_machine_of_whole_states(rt: HostRuntime) {
     check(&rt, rt.alloc(), &STATES);
@@ -64,7 +56,6 @@ fn a_journal_is_the_machine_of_whole_states(rt: HostRuntime) {
     groups_give_back::<Stack>();
 }
 
-/// Groups, with a `begin` and an `end`.
 static GROUPS: [Row; 27] = [
     (Call::End, NONE_OPEN, b"", 0, 0, 0, 0, (0, 0)),
     (Call::Begin, Reply::Done, b"", 0, 0, 0, 0, (0, 0)),
@@ -100,14 +91,11 @@ static GROUPS: [Row; 27] = [
     (Call::Undo, Reply::Done, b"bc", 3, 2, 1, 20, (1, 0)),
 ];
 
-// The edits of a group are undone and redone as one step. An undo does not go back past the begin
-// of an open group.
 #[test]
 fn a_group_is_taken_back_whole(rt: HostRuntime) {
     check(&rt, rt.alloc(), &GROUPS);
 }
 
-/// Groups that are given up.
 static ABORTS: [Row; 17] = [
     (Call::Abort, NONE_OPEN, b"", 0, 0, 0, 0, (0, 0)),
     (Call::Push(b'a', 1), Reply::Done, b"a", 1, 1, 0, 1, (0, 0)),
@@ -130,7 +118,6 @@ static ABORTS: [Row; 17] = [
     (Call::End, NONE_OPEN, b"", 0, 0, 0, 10, (0, 0)),
 ];
 
-// An abort undoes the steps of the open group, and leaves nothing to redo.
 #[test]
 fn an_abort_gives_back_what_stood_at_the_begin(rt: HostRuntime) {
     check(&rt, rt.alloc(), &ABORTS);

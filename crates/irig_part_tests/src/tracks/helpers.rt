@@ -1,6 +1,4 @@
-//! Tracks and gaps for the tests, and edits that are tried before they are made. A span is the
-//! place of an edit: its first pulse, from 0, how many went and how many came. What answers with
-//! true or false is false if memory runs out; else that is the error.
+//! Tracks and gaps for the tests, and edits that are tried before they are made.
 
 ghost use Rattle.std.specs.Prelude.{◌≡◌, ◌+◌, ◌≤◌, length, []};
 ghost use Rattle.irig_track.specs.Splices.{CanSplice};
@@ -11,7 +9,6 @@ use irig_recording::Recording;
 use irig_track::{Pulse, Span, Track};
 use std::alloc::{AllocError, Global};
 
-/// The pulses of a track in a gap buffer.
 pub(crate) fn pulses_of(alloc: Global, track: &Track) -> Result<Gap<Pulse>, AllocError> {
     let mut pulses = Gap::new(alloc);
     for index in 0..track.len() {
@@ -21,8 +18,7 @@ pub(crate) fn pulses_of(alloc: Global, track: &Track) -> Result<Gap<Pulse>, Allo
     Ok(pulses)
 }
 
-/// Whether the recording of a track has these edges and the track's length, and track and recording
-/// are written as the same text.
+/// Also whether track and recording are written as the same text.
 pub(crate) fn has_edges(alloc: Global, track: &Track, edges: &[u64]) -> bool {
     match track.recording(alloc) {
         Ok(recording) => is_recording_of(alloc, track, &recording, edges),
@@ -30,14 +26,12 @@ pub(crate) fn has_edges(alloc: Global, track: &Track, edges: &[u64]) -> bool {
     }
 }
 
-/// Whether a recording has a track's length and text, and these edges.
 fn is_recording_of(alloc: Global, track: &Track, recording: &Recording, edges: &[u64]) -> bool {
     recording.length() == track.length()
         && have_edges(recording.pulses(), edges)
         && have_one_text(alloc, track, recording)
 }
 
-/// Whether a track and a recording are written as the same text.
 fn have_one_text(alloc: Global, track: &Track, recording: &Recording) -> bool {
     match track.text(alloc) {
         Ok(text) => is_text_of(alloc, recording, text.as_slice()),
@@ -45,7 +39,6 @@ fn have_one_text(alloc: Global, track: &Track, recording: &Recording) -> bool {
     }
 }
 
-/// Whether a recording is written as this text.
 fn is_text_of(alloc: Global, recording: &Recording, text: &[u8]) -> bool {
     match irig_recording::text(alloc, recording) {
         Ok(written) => written.as_slice() == text,
@@ -53,10 +46,8 @@ fn is_text_of(alloc: Global, recording: &Recording, text: &[u8]) -> bool {
     }
 }
 
-/// Makes a splice, if it can be made: `count` pulses from `at` on, from 0, go and those of `put`
-/// come. True if its span is `want`; if `want` is `None`, true if the splice cannot be made.
-/// `can_splice` needs room for the pulses that come, and `splice` room in `taken` for those that
-/// go.
+/// Whether a splice has the span that is wanted, or cannot be made if that is `None`. `can_splice`
+/// needs room for the pulses that come, and `splice` room in `taken` for those that go.
 pub(crate) fn splices(
     alloc: Global,
     track: &mut Track,
@@ -75,10 +66,8 @@ pub(crate) fn splices(
     taken.reserve(count).is_ok() && exchanges(track, at, count, put, &mut taken, want)
 }
 
-/// Makes a splice that can be made. True if its span is `want`, it takes all of `put`, and it
-/// leaves `count` pulses in `taken`, which is empty before. The conditions are those of `splice`:
-/// the track has room for the pulses that come (`spare` is how many more fit in it; those that go
-/// make room, too), and `taken` has room for those that go.
+/// Whether the span is `want`, and all of `put` is in the track and `count` pulses in `taken`.
+/// `spare` is how many more fit in the track; those that go make room, too.
 fn exchanges(
     track: &mut Track,
     at: usize,
@@ -96,8 +85,7 @@ fn exchanges(
     put.len() == 0 && taken.len() == count && want == Some(span)
 }
 
-/// Shifts the pulses `i` to `j`, both included and from 0, by `by` microseconds, and returns the
-/// span; `None` if that cannot be done.
+/// From pulse `i` to `j`, both included and from 0; `None` if that cannot be done.
 pub(crate) fn shift(track: &mut Track, i: usize, j: usize, by: i64) -> Option<Span> {
     if track.can_shift(i, j, by) {
         Some(track.shift(i, j, by))
@@ -106,8 +94,7 @@ pub(crate) fn shift(track: &mut Track, i: usize, j: usize, by: i64) -> Option<Sp
     }
 }
 
-/// Inverts the level from time `a` to `b`, in microseconds, and returns the span; `None` if that
-/// cannot be done. It may make one pulse more, so there is room for one.
+/// It may make one pulse more, so there is room for one.
 pub(crate) fn toggle(track: &mut Track, a: u64, b: u64) -> Result<Option<Span>, AllocError> {
     track.reserve(1)?;
     if track.can_toggle(a, b) {

@@ -1,15 +1,15 @@
-//! The text of a track, part by part. A part is made by one call of `fill`.
+//! The text of a track in parts, each made by one call of `fill`.
 
 use crate::edges::track_of;
 use irig_text::Text;
 use irig_track::{Track, TrackText};
 use std::alloc::Global;
 
-/// The edges of a track of length 1,000, in microseconds.
+/// The length is 1,000.
 const EDGES: &[u64] = &[0, 120, 200, 280];
 
-/// The text of that track: its header with the rise at 0 (125 bytes), the fall of the first pulse
-/// (8 bytes), the second pulse (16), and the line of the length (6).
+/// Its header with the rise at 0 (125 bytes), the fall of the first pulse (8 bytes), the second
+/// pulse (16), and the line of the length (6).
 static LINES: [&[u8]; 4] = [
     b"$timescale 1 us $end\n$scope module irig $end\n$var wire 1 ! code $end\n\
     $upscope $end\n$enddefinitions $end\n#0\n$dumpvars\n1!\n$end\n",
@@ -18,9 +18,8 @@ static LINES: [&[u8]; 4] = [
     b"#1000\n",
 ];
 
-/// How many bytes are enough for a part: it ends after the row of `LINES` with which it has that
-/// many. And how many rows of `LINES` each part has. The line of the length is in the part of the
-/// last pulse. The numbers of bytes are those around 8, 125 and 133 = 125 + 8.
+/// How many bytes are enough for a part, and how many rows of `LINES` each part has: it ends with
+/// the row that makes it enough, but the line of the length is with the last pulse.
 static PARTS: [(usize, &[usize]); 8] = [
     (1, &[1, 1, 2]),
     (8, &[1, 1, 2]),
@@ -32,8 +31,7 @@ static PARTS: [(usize, &[usize]); 8] = [
     (usize::MAX, &[4]),
 ];
 
-/// Whether bytes are these lines, one after another, and nothing more. `saturating_add` saves a
-/// proof that the sum is below 2^64.
+/// `saturating_add` saves a proof that the sum is below 2^64.
 fn are_lines(bytes: &[u8], lines: &[&[u8]]) -> bool {
     let mut from = 0;
     for line in lines {
@@ -46,16 +44,13 @@ fn are_lines(bytes: &[u8], lines: &[&[u8]]) -> bool {
     from == bytes.len()
 }
 
-/// Takes the next part of a text, of at least `enough` bytes if there are that many left, and
-/// returns whether it is these lines. False if memory runs out. Whether the text says that it has
-/// ended is not compared.
+/// Whether the text says that it has ended is not compared.
 fn is_part(alloc: Global, text: &mut TrackText<'_>, enough: usize, lines: &[&[u8]]) -> bool {
     let mut block = Vec::new(alloc);
     text.fill(&mut block, enough).is_ok() && are_lines(block.as_slice(), lines)
 }
 
-/// Whether a text comes in these parts, each of that many rows of `LINES`, and ends then: all of
-/// `LINES` have come, and the part after them is empty. `saturating_add` is there as above.
+/// The part after all of `LINES` is empty.
 fn has_parts(alloc: Global, text: &mut TrackText<'_>, enough: usize, parts: &[usize]) -> bool {
     let mut from = 0;
     for count in parts {
@@ -68,7 +63,7 @@ fn has_parts(alloc: Global, text: &mut TrackText<'_>, enough: usize, parts: &[us
     from == LINES.len() && is_part(alloc, text, enough, &[])
 }
 
-/// Whether the text of a track comes in the parts of each row of `PARTS`, from its begin each time.
+/// From the begin of the text each time.
 fn comes_in_parts(alloc: Global, track: &Track) -> bool {
     for (enough, parts) in PARTS.iter() {
         if !has_parts(alloc, &mut track.text_parts(), *enough, parts) {
@@ -78,7 +73,6 @@ fn comes_in_parts(alloc: Global, track: &Track) -> bool {
     true
 }
 
-// The text of a track comes in the parts that each row of `PARTS` says.
 #[test]
 fn a_text_comes_in_parts(rt: HostRuntime) {
     let track = track_of(rt.alloc(), 1000, EDGES).expect(&rt, "a track");

@@ -1,4 +1,4 @@
-//! Rows of a track of two pulses, worked by hand, and a full track. An error: memory ran out.
+//! Rows of a track of two pulses, worked by hand, and a full track.
 
 use super::helpers::{has_edges, pulses_of, shift, splices, toggle};
 use crate::edges::{most_edges, track_of};
@@ -7,7 +7,6 @@ use irig_track::{Lens, Pulse, Span, Track};
 use std::alloc::{AllocError, Global};
 use std::process::Abort;
 
-/// Where an edit took place: its first pulse, how many pulses went, and how many came.
 type Place = (usize, usize, usize);
 
 /// A call with its answer; for an edit that is its place, or None if it cannot be made. `Splice`:
@@ -25,10 +24,9 @@ enum Call {
     Toggle(u64, u64, Option<Place>),
 }
 
-/// A call on the track of two pulses, and the edges that the track then has.
+/// A call on a new track of two pulses, and the edges that it then has.
 type Row = (Call, &'static [u64]);
 
-/// The `Span` that the track gives for a place; `None` for none.
 fn span_of(place: Option<Place>) -> Option<Span> {
     match place {
         Some((at, old, new)) => Some(Span { at, old, new }),
@@ -36,12 +34,10 @@ fn span_of(place: Option<Place>) -> Option<Span> {
     }
 }
 
-/// The track of length 1,000 with pulses 100-120 and 200-280, in microseconds.
 fn two_pulses(alloc: Global) -> Result<Track, AllocError> {
     track_of(alloc, 1000, START)
 }
 
-/// One pulse in a gap buffer.
 fn one_pulse(alloc: Global, rise: u64, fall: u64) -> Result<Gap<Pulse>, AllocError> {
     let mut put = Gap::new(alloc);
     put.reserve(1)?;
@@ -49,12 +45,10 @@ fn one_pulse(alloc: Global, rise: u64, fall: u64) -> Result<Gap<Pulse>, AllocErr
     Ok(put)
 }
 
-/// Whether pulse `index` of a track, from 0, is there and has this rise and this fall.
 fn has_pulse(track: &Track, index: usize, rise: u64, fall: u64) -> bool {
     index < track.len() && track.pulse(index) == Pulse { rise, fall }
 }
 
-/// Whether one pulse replaces `count` from `at` on, at `place`. `None`: whether it cannot be done.
 fn splices_one(
     alloc: Global,
     track: &mut Track,
@@ -70,7 +64,6 @@ fn splices_one(
     }
 }
 
-/// Whether the inversion from `a` to `b` is done, at `place`. `None`: whether it cannot be done.
 fn toggles(track: &mut Track, a: u64, b: u64, place: Option<Place>) -> bool {
     match toggle(track, a, b) {
         Ok(answer) => answer == span_of(place),
@@ -78,7 +71,6 @@ fn toggles(track: &mut Track, a: u64, b: u64, place: Option<Place>) -> bool {
     }
 }
 
-/// Makes a call on a track, and returns whether its answer is the one that `call` has.
 fn answers(alloc: Global, track: &mut Track, call: Call) -> bool {
     match call {
         Call::Len(len) => track.len() == len,
@@ -94,7 +86,6 @@ fn answers(alloc: Global, track: &mut Track, call: Call) -> bool {
     }
 }
 
-/// Whether a call on a new track of two pulses answers as its row says, and leaves those edges.
 fn is_right(alloc: Global, (call, edges): &Row) -> bool {
     match two_pulses(alloc) {
         Ok(mut track) => { answers(alloc, &mut track, *call) && has_edges(alloc, &track, edges) }
@@ -102,14 +93,12 @@ fn is_right(alloc: Global, (call, edges): &Row) -> bool {
     }
 }
 
-/// Asserts that the call of each row, on a new track of two pulses each, is as its row says.
 fn check(rt: &impl Abort, alloc: Global, rows: &[Row]) {
     for row in rows {
         assert!(rt; is_right(alloc, row));
     }
 }
 
-/// The edges of the track of two pulses, in microseconds.
 const START: &[u64] = &[100, 120, 200, 280];
 
 /// A track has at most 2^22 = 4,194,304 pulses; `Find` counts the rises at or before a time.
@@ -195,14 +184,14 @@ fn a_shift_says_where_it_took_place(rt: HostRuntime) {
     check(&rt, rt.alloc(), &SHIFTS);
 }
 
-/// A track of 2^22 pulses, with time for more in its length.
+/// With time for more in its length.
 fn full_track(alloc: Global) -> Result<Track, AllocError> {
     let edges = most_edges(alloc)?;
     track_of(alloc, 8_388_618, edges.as_slice())
 }
 
-/// Whether a full track takes a pulse only instead of another, and an inversion only if it adds
-/// none: from 0 on, it removes a rise. Pulse k, from 0, is from 2k to 2k + 1 microseconds.
+/// An inversion is possible only if it adds no pulse: from 0 on, it removes a rise. Pulse k, from
+/// 0, is from 2k to 2k + 1 microseconds.
 fn takes_no_further(track: &Track, put: &Gap<Pulse>) -> bool {
     track.room() == 0
         && !track.can_splice(4_194_304, 0, put)
@@ -219,12 +208,10 @@ fn a_full_track_takes_no_further_pulse(rt: HostRuntime) {
     assert!(rt; takes_no_further(&track, &put));
 }
 
-/// Whether a lens, which shows a track and counts its looks, shows pulse `index`, from 0.
 fn shows(lens: &mut Lens<'_>, track: &Track, index: usize) -> bool {
     index < lens.len() && index < track.len() && lens.pulse(index) == track.pulse(index)
 }
 
-/// Whether a lens on the track of two pulses shows it, and counts each look.
 fn counts_looks(track: &Track) -> bool {
     let mut lens = track.lens();
     lens.len() == 2
@@ -235,7 +222,6 @@ fn counts_looks(track: &Track) -> bool {
         && lens.looks() == 2
 }
 
-/// Whether a track has two pulses, and a lens shows them. False if memory runs out.
 fn shows_two(alloc: Global, track: &Track) -> bool {
     match pulses_of(alloc, track) {
         Ok(pulses) => pulses.len() == 2 && counts_looks(track),
