@@ -1,8 +1,4 @@
-//! The program over folders in memory, where the standard output is one of the files. These folders
-//! give their whole state, so what is promised of a run holds of them without a condition. In the
-//! contract, `calls` are the calls that changed the folders so far: what they hold follows from
-//! these. `files` and `ends` are what is known of the disk, and of the screen, the script and the
-//! writes.
+//! The program over folders in memory, where the standard output is one of the files.
 
 ghost use Rattle.std.specs.Prelude.{◌≡◌, Some, map, string_bytes, true, None};
 ghost use Rattle.std.specs.Process.{exit_status};
@@ -20,8 +16,7 @@ use irig_script::{NoWitness, Screen};
 use std::alloc::Global;
 use std::process::ExitCode;
 
-/// Edits the track that the words name, in folders in memory, and returns the exit status. It only
-/// calls `start`. Its contract is that of `start`, with the state of these folders written out.
+/// The contract is that of `start`, with the state of these folders written out.
 fn start_in_memory<P: Eprint + AllocGlobal>(
     rt: &P,
     words: &[String],
@@ -49,20 +44,14 @@ fn start_in_memory<P: Eprint + AllocGlobal>(
     start(rt, words, disk, script, screen, help)
 }
 
-/// A dump of two pulses.
 static DUMP: &[u8] = b"$timescale 1 us $end $var wire 1 ! code $end $enddefinitions $end\n\
     #100 1!\n#120 0!\n#200 1!\n#280 0!\n#1000\n";
 
-/// What a run that writes twice has to do: the track, the path of the writes, the exit status, what
-/// is printed, and how many calls change the folders. The status is 0, or 1 if a line was refused,
-/// 2 for a mistake in the command line, 3 for a track that cannot be used. A dump of two pulses, as
-/// it is written, has 163 bytes. A write to a new regular file is five calls: make, append, sync
-/// the file, rename, sync the folder. If the file is there, the new one also takes its mode, a
-/// sixth.
+/// A run that writes twice: the track, the path of the writes, the exit status, what is printed,
+/// and how many calls change the folders. A write to a new regular file is five: make, append, sync
+/// the file, rename, sync the folder. If the file is there, the new one also takes its mode.
 type Row = (&'static str, &'static str, u8, &'static [u8], usize);
 
-/// What is no regular file, and the standard output, are written in place, also through a link.
-/// Paths are from the folder with the dump `t`.
 static ROWS: [Row; 9] = [
     // A new file first, and then a file that is there: 5 and 6 calls.
     ("t", "w", 0, b"163\n163\n", 11),
@@ -79,8 +68,7 @@ static ROWS: [Row; 9] = [
     ("none", "w", 3, b"", 0),
 ];
 
-/// Runs with `--from 0`, a window of the whole dump: it is not written over the track, also through
-/// a link (status 2), but it is written to any other path.
+/// With `--from 0`, a window of the whole dump, which is not written over the track.
 static WINDOW_ROWS: [Row; 4] = [
     ("t", "w", 0, b"163\n163\n", 11),
     ("t", "out", 0, b"163\n163\n", 0),
@@ -88,10 +76,8 @@ static WINDOW_ROWS: [Row; 4] = [
     ("t", "way", 2, b"", 0),
 ];
 
-/// A folder with the dump (`t`), a link to the dump (`way`), a file that must not be written
-/// (`locked`), the standard output (`out`), a link to the output (`link`), and a pipe. The path of
-/// the folder is `.`, and its places begin with `/`. A path may follow 40 links. It fails only if
-/// memory runs out.
+/// The dump (`t`), a link to it, a file that must not be written, the standard output, a link to
+/// that, and a pipe. The path of the folder is `.`; a path may follow 40 links.
 fn folder(alloc: Global) -> Result<Tree, MemoryFault> {
     let mut tree = Tree::new(alloc, 40);
     tree.add_path(".", "/")?;
@@ -104,9 +90,7 @@ fn folder(alloc: Global) -> Result<Tree, MemoryFault> {
     Ok(tree)
 }
 
-/// The words of a command line: the program's name, `--from 0` if a window is asked for, `--out`
-/// with its path, and the track; `None` if memory runs out. The places 1 and 2 of `all` are those
-/// of `--from 0`.
+/// The places 1 and 2 of `all` are those of `--from 0`.
 fn words(alloc: Global, window: bool, track: &str, out: &str) -> Option<Vec<String>> {
     let mut words = Vec::new(alloc);
     let all = ["irig_ed", "--from", "0", "--out", out, track];
@@ -119,10 +103,7 @@ fn words(alloc: Global, window: bool, track: &str, out: &str) -> Option<Vec<Stri
     Some(words)
 }
 
-/// Whether the program, run in the folders of `tree` with the words of a row, ends, prints and
-/// writes as the row says, and prints no help. Its script is `write`, twice. The row counts the
-/// calls of the run alone, not those that made the folders before. It is false, too, if memory runs
-/// out for the words.
+/// The script is `write`, twice. Only the calls of the run count, not those that made the folders.
 fn runs_as_row_says<R: Eprint + AllocGlobal>(rt: &R, tree: Tree, window: bool, row: Row) -> bool {
     let (track, out, status, printed, calls) = row;
     let alloc = rt.alloc();
@@ -144,8 +125,6 @@ fn runs_as_row_says<R: Eprint + AllocGlobal>(rt: &R, tree: Tree, window: bool, r
         && disk.system().memory.calls().len().saturating_sub(before) == calls
 }
 
-/// Whether the program, run in a new `folder`, does what a row says (`runs_as_row_says`). It is
-/// false, too, if memory runs out for the folder.
 fn runs_in_folder<R: Eprint + AllocGlobal>(rt: &R, window: bool, row: Row) -> bool {
     match folder(rt.alloc()) {
         Ok(tree) => runs_as_row_says(rt, tree, window, row),
@@ -153,8 +132,6 @@ fn runs_in_folder<R: Eprint + AllocGlobal>(rt: &R, window: bool, row: Row) -> bo
     }
 }
 
-// The runs without a window. Only a write to a path that leads to a regular file that may be
-// written, or to none yet, changes the folder; the standard output is written in place.
 #[test]
 fn the_standard_output_is_written_in_place(rt: HostRuntime) {
     for row in ROWS.iter() {
@@ -162,7 +139,6 @@ fn the_standard_output_is_written_in_place(rt: HostRuntime) {
     }
 }
 
-// The runs with a window: it is written to another path than the track, or the run is refused.
 #[test]
 fn a_window_is_not_written_over_its_track(rt: HostRuntime) {
     for row in WINDOW_ROWS.iter() {

@@ -1,5 +1,4 @@
-//! Scripts, tested by their public calls. Its own code is a witness that keeps what it sees, and
-//! runs with it.
+//! Scripts, tested by their public calls, and runs with a witness that keeps what it sees.
 #![tactic(auto)]
 
 #[cfg(test)]

@@ -1,7 +1,4 @@
-//! A witness that keeps what it sees, for clauses alone: it takes no memory, and in the program it
-//! does nothing. A witness sees the output and the shelf, where texts are written, after each line
-//! of a script is obeyed. Its `list` is nothing in the program, so no body can set it: the proofs
-//! of `new` and `and`, written by hand, do.
+//! A witness that keeps what it sees, for clauses alone: in the program it does nothing.
 
 ghost use Rattle.std.specs.Prelude.{◌≡◌, ◌++◌, ◌∷◌, [], List, Some, refl};
 ghost use Rattle.std.specs.Borrow.{ftrue};
@@ -23,15 +20,13 @@ impl Model for Sights {
 }
 
 impl Sights {
-    /// A witness that has seen nothing yet.
     pub fn new() -> Sights
         ensures none { result.list ≡ [] }
     {
         Sights {}
     }
 
-    /// A new witness whose list is that of this one and after it one sight more: the output and the
-    /// shelf as they are now.
+    /// The list has one sight more: the output and the shelf as they are now.
     pub fn and<W: Write, S: Shelf>(&self, out: &W, shelf: &S) -> Sights
         ensures more { result.list ≡ self.now.list
             ++ sight (W.contents out.now) (S.known shelf.now).texts ∷ [] }
@@ -43,7 +38,6 @@ impl Sights {
 impl Witness for Sights {
     ghost seen = { λ sights. Some sights.list };
 
-    // Adds an output and a shelf, as they are now, at the end of the list.
     fn see<W: Write, S: Shelf>(&mut self, out: &W, shelf: &S) {
         *self = self.and(out, shelf);
     }

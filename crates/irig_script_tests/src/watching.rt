@@ -1,7 +1,4 @@
-//! A run over files in memory whose witness keeps what it sees: the output and the files, after
-//! each line of the script is obeyed. A screen is an output with its witness. A `Status` says
-//! whether all lines of a script were accepted or some were refused. A `DumpRunFault` says that the
-//! dump was not opened, so that no line was obeyed, or that the run was broken off.
+//! A run over files in memory whose witness keeps what it sees.
 
 ghost use Rattle.std.specs.Prelude.{◌≡◌, ◌≤◌, ◌^◌, [], List, Some, ℕ, length};
 ghost use Rattle.irig_script.specs.Print.Screen.{Sight};
@@ -16,19 +13,16 @@ use irig_script::{DumpRunFault, Screen, Status, run_on_dump};
 use std::alloc::Global;
 use std::io::Write;
 
-/// The files of a new folder in memory, which is empty.
 pub fn new_files(alloc: Global) -> Files<Memory>
     ensures empty { texts_in result.system.calls.items ≡ Some [] }
 {
     Files::new(Memory::new(alloc), ())
 }
 
-/// Runs a script on a dump of at most 2^28 bytes, whose one wire of one bit is read in the format.
-/// Each text that the script writes replaces the file `t` of the folder in memory, so the last one
-/// stays. Answers go to the screen, whose witness sees output and texts. `room` is the memory of
-/// the writes. The clause: output, texts and sights from before stay, and after them comes just
-/// what the lines that were obeyed print and write, and what was there before each answer; nothing
-/// comes if the dump is not opened.
+/// Each text that the script writes replaces the file `t` of the folder, so the last one stays. The
+/// clause: output, texts and sights from before stay, and after them comes just what the lines that
+/// were obeyed print and write, and what was there before each answer; nothing comes if the dump is
+/// not opened.
 pub fn watch<W: Write>(
     alloc: Global,
     dump: Vec<u8>,
@@ -48,8 +42,7 @@ pub fn watch<W: Write>(
     run_on_dump(alloc, dump, None, format, script, screen, &mut shelf)
 }
 
-/// Runs a script on a dump as `watch` does, from an empty output, a witness that has seen nothing
-/// and a new folder on. Returns the screen and the files after the run, and how it ended.
+/// Runs as `watch` does, from an empty output, a witness that has seen nothing and a new folder on.
 pub fn watch_anew(
     alloc: Global,
     dump: Vec<u8>,

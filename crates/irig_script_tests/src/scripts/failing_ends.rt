@@ -1,9 +1,5 @@
 //! Runs whose script cannot be read, or whose output or texts cannot be written, from each byte and
 //! each write on.
-//!
-//! `INVERTED` and `DELETED` are worked scripts on two pulses, 100 to 120 and 200 to 280
-//! microseconds: each has what it prints, and a stop for each line (`stops`), which is what there
-//! is after it. A shelf is where `write` writes its texts: here in memory.
 
 use crate::scripts::helpers::two_pulses;
 use crate::scripts::stops::{
@@ -24,7 +20,6 @@ struct Broken<'a> {
 }
 
 impl<'a> Read for Broken<'a> {
-    // Gives the next bytes of the text, at most `step`, or the error if none is left.
     fn read(&mut self, buf: &mut [u8]) -> io::Result<usize> {
         if self.text.is_empty() {
             return Err(io::Error::from(self.kind));
@@ -46,8 +41,7 @@ struct Full {
 }
 
 impl Write for Full {
-    // Takes as many bytes as there is room for. If that is none: an error if `fails`, else 0. The
-    // error is `Interrupted`: the program has to end the run also then, not to try again.
+    // The error is `Interrupted`: the program has to end the run also then, not to try again.
     fn write(&mut self, buf: &[u8]) -> io::Result<usize> {
         let count = self.room.min(buf.len());
         if count == 0 && self.fails {
@@ -58,15 +52,13 @@ impl Write for Full {
         Ok(count)
     }
 
-    // Nothing waits to be written, so there is nothing to do.
     fn flush(&mut self) -> io::Result<()> {
         Ok(())
     }
 }
 
-/// Whether the run ends with `ReadFailed`, and only the whole lines of a script are obeyed and
-/// answered, if its reads fail after this many bytes with an error of this kind. A read gives three
-/// bytes at most, so that it can end within a line. `worked.stops` has what each line leaves.
+/// Whether only the whole lines of a script are obeyed and answered, if its reads fail after this
+/// many bytes. A read gives three bytes at most, so that it can end within a line.
 fn is_read(
     alloc: Global,
     session: &mut Session,
@@ -91,7 +83,6 @@ fn is_read(
         && stands(stop, session, &shelf)
 }
 
-/// Whether `is_read` is true on a session of its own; false if memory runs out.
 fn is_read_once(alloc: Global, worked: Worked<'_>, bytes: usize, kind: ErrorKind) -> bool {
     match two_pulses(alloc) {
         Some(mut session) => is_read(alloc, &mut session, worked, bytes, kind),
@@ -99,26 +90,22 @@ fn is_read_once(alloc: Global, worked: Worked<'_>, bytes: usize, kind: ErrorKind
     }
 }
 
-/// Asserts that the run is as `is_read` says, whichever byte of the script cannot be read: the
-/// first, each later one, or what comes after the last.
+/// What cannot be read is each byte of the script in turn, and what comes after the last.
 fn check_reads(rt: &impl Abort, alloc: Global, worked: Worked<'_>, kind: ErrorKind) {
     for bytes in 0..=worked.script.len() {
         assert!(rt; is_read_once(alloc, worked, bytes, kind));
     }
 }
 
-// A read that fails ends the run, and only the whole lines before it were obeyed. An interrupted
-// read is not tried again: it ends the run as each other error does.
+// An interrupted read ends the run as each other error does.
 #[test]
 fn a_failed_read_ends_the_run(rt: HostRuntime) {
     check_reads(&rt, rt.alloc(), INVERTED, ErrorKind::Other);
     check_reads(&rt, rt.alloc(), DELETED, ErrorKind::Interrupted);
 }
 
-/// Whether an output that has room for this many bytes gets them, the run ends with `PrintFailed`,
-/// and the line whose answer was not printed whole is the last one obeyed. `fails`: a full output
-/// returns an error; else it takes no byte. It is false, too, if the script prints no more bytes
-/// than there is room for.
+/// Whether an output gets the bytes that it has room for, and the line whose answer was not printed
+/// whole is the last one obeyed. `fails`: a full output returns an error; else it takes no byte.
 fn is_printed(
     alloc: Global,
     session: &mut Session,
@@ -139,7 +126,6 @@ fn is_printed(
         && stands(stop, session, &shelf)
 }
 
-/// Whether `is_printed` is true on a session of its own; false if memory runs out.
 fn is_printed_once(alloc: Global, worked: Worked<'_>, room: usize, fails: bool) -> bool {
     match two_pulses(alloc) {
         Some(mut session) => is_printed(alloc, &mut session, worked, room, fails),
@@ -147,15 +133,12 @@ fn is_printed_once(alloc: Global, worked: Worked<'_>, room: usize, fails: bool) 
     }
 }
 
-/// Asserts that the run is as `is_printed` says, whichever byte of what the script prints is the
-/// first that is not taken.
 fn check_writes(rt: &impl Abort, alloc: Global, worked: Worked<'_>, fails: bool) {
     for room in 0..worked.printed.len() {
         assert!(rt; is_printed_once(alloc, worked, room, fails));
     }
 }
 
-// A write that fails (`true`), or takes no byte (`false`), ends the run.
 #[test]
 fn a_failed_write_ends_the_run(rt: HostRuntime) {
     check_writes(&rt, rt.alloc(), INVERTED, true);
@@ -163,8 +146,7 @@ fn a_failed_write_ends_the_run(rt: HostRuntime) {
     check_writes(&rt, rt.alloc(), DELETED, true);
 }
 
-/// What the script of two writes (`INVERTED`) prints, by the write that fails, from 1: `S3` instead
-/// of the count of its bytes, which is 179 of the first text and 163 of the second.
+/// What `INVERTED` prints, by the write that fails, from 1: `S3` instead of the count of its bytes.
 pub static REFUSED: [(u64, &[u8]); 2] = [
     (
         1,
@@ -178,8 +160,7 @@ pub static REFUSED: [(u64, &[u8]); 2] = [
     ),
 ];
 
-/// What that script leaves: the text of the write that does not fail. `stands` tests neither `read`
-/// nor `printed`.
+/// The text of the write that does not fail. `stands` tests neither `read` nor `printed`.
 const REFUSED_STOP: Stop = Stop {
     read: 44,
     printed: 91,
@@ -188,8 +169,7 @@ const REFUSED_STOP: Stop = Stop {
     texts: 1,
 };
 
-/// Whether only the line whose write fails is refused: the run comes to its end, prints `printed`,
-/// and leaves what `REFUSED_STOP` says. `fails` is the number of that write, from 1.
+/// Whether only the line whose write fails is refused; `fails` is its number, from 1.
 fn is_put(alloc: Global, session: &mut Session, fails: u64, printed: &[u8]) -> bool {
     let mut script = INVERTED.script;
     let mut out = Vec::new(alloc);
@@ -200,7 +180,6 @@ fn is_put(alloc: Global, session: &mut Session, fails: u64, printed: &[u8]) -> b
         && stands(REFUSED_STOP, session, &shelf)
 }
 
-/// Whether `is_put` is true on a session of its own; false if memory runs out.
 fn is_put_once(alloc: Global, fails: u64, printed: &[u8]) -> bool {
     match two_pulses(alloc) {
         Some(mut session) => is_put(alloc, &mut session, fails, printed),
@@ -208,7 +187,6 @@ fn is_put_once(alloc: Global, fails: u64, printed: &[u8]) -> bool {
     }
 }
 
-// A line whose write to the shelf fails is refused, and the lines after it are obeyed.
 #[test]
 fn a_failed_put_refuses_its_line(rt: HostRuntime) {
     for (fails, printed) in REFUSED.iter() {
@@ -216,7 +194,6 @@ fn a_failed_put_refuses_its_line(rt: HostRuntime) {
     }
 }
 
-/// Whether a fault is printed as this text. False if memory runs out.
 fn has_text(alloc: Global, fault: RunFault, text: &str) -> bool {
     match format!(in alloc; "{fault}") {
         Ok(told) => told.as_str() == text,
@@ -224,8 +201,7 @@ fn has_text(alloc: Global, fault: RunFault, text: &str) -> bool {
     }
 }
 
-// A script that takes 2^32 reads ends with `TooManyReads`. No test runs that long: only the text of
-// this fault is tested here, as `docs/SCRIPT.md` has it.
+// No test runs the 2^32 reads that the fault is for: only its text is tested, by `docs/SCRIPT.md`.
 #[test]
 fn many_reads_have_their_text(rt: HostRuntime) {
     assert!(rt; has_text(rt.alloc(), RunFault::TooManyReads, "S5 TooManyReads"));

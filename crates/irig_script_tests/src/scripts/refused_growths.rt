@@ -1,7 +1,4 @@
-//! What a refused growth leaves: `tests/no_memory` runs it with each growth refused in turn. A
-//! growth is a request for memory. At most one is refused in a run, so a call that was refused
-//! succeeds when it is made again. Each session begins with two pulses, 100 to 120 and 200 to 280
-//! microseconds. A shelf is where `write` writes its texts: here in memory.
+//! What a refused growth leaves: `tests/no_memory` runs it with each growth refused in turn.
 
 use crate::scripts::helpers::{TWO_PULSES, two_pulses};
 use irig_codes::{Format, Kind};
@@ -10,8 +7,7 @@ use irig_script::{DumpRunFault, MemoryShelf, NoWitness, Screen, Status, run_on_d
 use irig_vcd::VcdFault;
 use std::alloc::Global;
 
-/// Inserts a third pulse. True if it is there then, and the cursor at it. If memory runs out: true
-/// if pulses and steps stay as they were, and the same call succeeds when it is made again.
+/// If memory runs out pulses and steps have to stay, and the same call has to succeed then.
 fn inserts(session: &mut Session) -> bool {
     if session.insert(400, 450) == Err(Refusal::OutOfMemory) {
         session.len() == 2 && session.steps_back() == 0 && session.insert(400, 450) == Ok(())
@@ -20,15 +16,13 @@ fn inserts(session: &mut Session) -> bool {
     }
 }
 
-/// Undoes the insert of `inserts`. True if two pulses are left and one step can be redone,
-/// whichever growth is refused: an undo takes no memory.
+/// Whichever growth is refused: an undo takes no memory.
 fn undoes(session: &mut Session) -> bool {
     session.undo() == Ok(()) && session.len() == 2 && session.steps_forward() == 1
 }
 
-/// Inserts another pulse, which drops what can be redone, and undoes this insert: true if the undo
-/// succeeds. If memory runs out for the insert: true if two pulses are there, and the step of
-/// `undoes` can still be redone. Either way two pulses are there then, and one step can be redone.
+/// An insert drops what can be redone. If it runs out of memory, the step of `undoes` can still be
+/// redone. Either way two pulses are there then, and one step can be redone.
 fn inserts_another(session: &mut Session) -> bool {
     if session.insert(500, 510) == Err(Refusal::OutOfMemory) {
         session.len() == 2 && session.steps_forward() == 1
@@ -37,20 +31,16 @@ fn inserts_another(session: &mut Session) -> bool {
     }
 }
 
-/// Redoes the step that was undone last. True if three pulses are there and nothing is left to
-/// redo, whichever growth is refused: a redo takes no memory.
+/// A redo takes no memory.
 fn redoes(session: &mut Session) -> bool {
     session.redo() == Ok(()) && session.len() == 3 && session.steps_forward() == 0
 }
 
-/// Makes an insert, an undo, another insert with its undo, and a redo, each by the function above.
-/// True if each is true.
 fn is_left(session: &mut Session) -> bool {
     inserts(session) && undoes(session) && inserts_another(session) && redoes(session)
 }
 
-// A call that runs out of memory leaves pulses and steps, and then succeeds. If memory runs out for
-// the session itself, nothing is tested in that run.
+// If memory runs out for the session itself, nothing is tested in that run.
 #[test]
 fn a_refused_call_leaves_the_session(rt: HostRuntime) {
     if let Some(mut session) = two_pulses(rt.alloc()) {
@@ -58,9 +48,7 @@ fn a_refused_call_leaves_the_session(rt: HostRuntime) {
     }
 }
 
-/// What the script below prints, by the growth that is refused. Its lines are `invert`, which
-/// removes a pulse, `write`, `undo` and `write`; the first write has 147 bytes, or 163 if the pulse
-/// is there, as at the second.
+/// What the script of `ran` prints, by the growth that is refused. `invert` removes a pulse.
 static PRINTED: [&[u8]; 6] = [
     // None of the script.
     b"147\n163\n",
@@ -75,8 +63,7 @@ static PRINTED: [&[u8]; 6] = [
     b"147\n? S3 WriteFailed\n",
 ];
 
-/// Runs the script of `PRINTED` on the dump of two pulses, with `out` as the output. Returns how it
-/// ended; `None` if the bytes of the dump found no room, so that it did not run.
+/// `None` if the bytes of the dump found no room, so that the script did not run.
 fn ran(alloc: Global, out: &mut Vec<u8>) -> Option<Result<Status, DumpRunFault>> {
     let format = Format::new(Kind::G, 2).ok()?;
     let dump = Vec::from_slice(alloc, TWO_PULSES).ok()?;
@@ -94,8 +81,7 @@ fn ran(alloc: Global, out: &mut Vec<u8>) -> Option<Result<Status, DumpRunFault>>
     ))
 }
 
-/// Whether only the line that runs out of memory is refused, or the dump is not opened and nothing
-/// is printed. `None`: the bytes of the dump found no room, so no script ran.
+/// Whether only the line that runs out of memory is refused, or the dump is not opened.
 fn is_expected(outcome: Option<Result<Status, DumpRunFault>>, out: &[u8]) -> bool {
     match outcome {
         None => true,
@@ -104,7 +90,6 @@ fn is_expected(outcome: Option<Result<Status, DumpRunFault>>, out: &[u8]) -> boo
     }
 }
 
-/// Whether what is printed is one of the texts of `PRINTED`.
 fn is_printed(out: &[u8]) -> bool {
     for text in PRINTED.iter() {
         if *text == out {
@@ -114,8 +99,7 @@ fn is_printed(out: &[u8]) -> bool {
     false
 }
 
-// In a script only the line that runs out of memory is refused, and the next ones are obeyed. If
-// memory runs out for the output, nothing is tested in that run.
+// If memory runs out for the output, nothing is tested in that run.
 #[test]
 fn a_refused_line_leaves_the_rest(rt: HostRuntime) {
     // All that is printed has room in 200 bytes, so the output itself takes no memory later.

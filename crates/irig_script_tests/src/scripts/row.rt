@@ -2,8 +2,7 @@
 
 use irig_script::Status;
 
-/// A script on two pulses in format G, what it prints, and how it ends: with all lines accepted, or
-/// with some refused.
+/// A script on two pulses in format G, what it prints, and how it ends.
 #[derive(Clone, Copy)]
 pub struct Row<'a> {
     pub script: &'a [u8],

@@ -1,7 +1,5 @@
-//! Scripts over memory: what each prints, and how it ends (`Status`: all lines accepted, or some
-//! refused). The scripts of the whole language are rows of `tests/rows`, which the program obeys. A
-//! shelf is where `write` writes its texts: here in memory. `write` prints how many bytes the dump
-//! has: 163 with two pulses, 147 with one, as a pulse has 16 (two edges of three-digit times).
+//! Scripts over memory: what each prints, and how it ends; those of the whole language are in
+//! `tests/rows`.
 
 use crate::scripts::helpers::TWO_PULSES;
 use crate::scripts::row::Row;
@@ -10,8 +8,7 @@ use irig_script::{MemoryShelf, NoWitness, Screen, Status, run_on_dump};
 use std::alloc::{AllocError, Global};
 use std::process::Abort;
 
-/// Whether a script prints and ends as its row says, run on a dump of two pulses that is read as
-/// kind G, expression 2. Its texts go to the shelf. False if memory runs out.
+/// The script is run on a dump of two pulses, in format G 2.
 fn is_right(alloc: Global, row: &Row<'_>, shelf: &mut MemoryShelf) -> bool {
     let Ok(format) = Format::new(Kind::G, 2) else {
         return false;
@@ -26,14 +23,11 @@ fn is_right(alloc: Global, row: &Row<'_>, shelf: &mut MemoryShelf) -> bool {
     outcome == Ok(row.status) && out.as_slice() == row.printed
 }
 
-/// Asserts that the script of a row prints and ends as the row says, with a shelf of which no write
-/// is set to fail.
 fn check(rt: &impl Abort, alloc: Global, row: &Row<'_>) {
     let mut shelf = MemoryShelf::new(alloc, None);
     assert!(rt; is_right(alloc, row, &mut shelf));
 }
 
-// A last line without its newline is obeyed: `write` prints the size of the dump.
 #[test]
 fn a_last_line_is_obeyed(rt: HostRuntime) {
     let row = Row {
@@ -44,9 +38,8 @@ fn a_last_line_is_obeyed(rt: HostRuntime) {
     check(&rt, rt.alloc(), &row);
 }
 
-/// A line of 1,000 bytes, `write` and spaces, and one of 1,001 bytes, all `#`. The first has its
-/// newline at place 1,000, so the second begins at 1,001 and ends before 2,002. It fails only if
-/// memory runs out.
+/// A line of 1,000 bytes, `write` and spaces, and one of 1,001, all `#`. The newline of the first
+/// is at place 1,000, so the second begins at 1,001 and ends before 2,002.
 fn long_lines(alloc: Global) -> Result<Vec<u8>, AllocError> {
     let mut script = Vec::from_slice(alloc, b"write")?;
     script.resize(1000, b' ')?;
@@ -55,8 +48,7 @@ fn long_lines(alloc: Global) -> Result<Vec<u8>, AllocError> {
     Ok(script)
 }
 
-// A line of 1,000 bytes is obeyed; one of 1,001 is too long, even if it is a comment. If memory
-// runs out for the script, the test fails with that error.
+// The line of 1,001 bytes is too long, even if it is a comment.
 #[test]
 fn long_lines_are_refused(rt: HostRuntime) -> Result<(), AllocError> {
     let script = long_lines(rt.alloc())?;
@@ -69,8 +61,7 @@ fn long_lines_are_refused(rt: HostRuntime) -> Result<(), AllocError> {
     Ok(())
 }
 
-// The shelf is set to fail at write 1. So the first `write` is refused and the second one is not,
-// and one text is on the shelf.
+// The shelf is set to fail at write 1, so one text is on it.
 #[test]
 fn a_failed_put_is_refused(rt: HostRuntime) {
     let row = Row {

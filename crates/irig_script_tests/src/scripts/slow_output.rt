@@ -1,4 +1,4 @@
-//! A run whose output takes one byte of each write. `INVERTED` is a script with what it prints.
+//! A run whose output takes one byte of each write.
 
 use crate::scripts::helpers::two_pulses;
 use crate::scripts::stops::INVERTED;
@@ -7,28 +7,23 @@ use irig_script::{MemoryShelf, NoWitness, Screen, Status, run};
 use std::alloc::Global;
 use std::io::{self, Write};
 
-/// Takes one byte of each write.
 #[derive(Drop)]
 struct Slow {
     taken: Vec<u8>,
 }
 
 impl Write for Slow {
-    // Takes the first byte, or none if `buf` is empty. It fails only if memory runs out.
     fn write(&mut self, buf: &[u8]) -> io::Result<usize> {
         let count = buf.len().min(1);
         self.taken.extend_from_slice(&buf[..count])?;
         Ok(count)
     }
 
-    // Nothing waits to be written, so there is nothing to do.
     fn flush(&mut self) -> io::Result<()> {
         Ok(())
     }
 }
 
-/// Whether an output that takes one byte of each write gets all that `INVERTED` prints, and no line
-/// is refused.
 fn is_printed(alloc: Global, session: &mut Session) -> bool {
     let mut script = INVERTED.script;
     let taken = Vec::new(alloc);
@@ -39,7 +34,6 @@ fn is_printed(alloc: Global, session: &mut Session) -> bool {
         && out.taken.as_slice() == INVERTED.printed
 }
 
-/// Whether `is_printed` is true on a session of its own; false if memory runs out.
 fn is_printed_once(alloc: Global) -> bool {
     match two_pulses(alloc) {
         Some(mut session) => is_printed(alloc, &mut session),
@@ -47,8 +41,7 @@ fn is_printed_once(alloc: Global) -> bool {
     }
 }
 
-// An output may take a part of a write, here one byte: that is no failure, and the rest is written
-// next.
+// An output may take a part of a write: the rest is written next.
 #[test]
 fn an_output_that_takes_a_byte_at_a_time_gets_all(rt: HostRuntime) {
     assert!(rt; is_printed_once(rt.alloc()));

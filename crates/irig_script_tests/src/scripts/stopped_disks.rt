@@ -1,7 +1,4 @@
 //! The writes of a script to a disk in memory, stopped after each call and failed at each.
-//! `INVERTED` is that script, with what it prints, and `REFUSED` what it prints if its first or its
-//! second write fails. A disk in memory is the log of the calls on it, the newest first: what it is
-//! without its newest calls is what a crash before them leaves.
 
 use crate::scripts::failing_ends::REFUSED;
 use crate::scripts::helpers::two_pulses;
@@ -12,19 +9,16 @@ use irig_folders::{Call, Memory, bytes_of, file_at, is_kept};
 use irig_script::{NoWitness, RunFault, Screen, Status, run};
 use std::alloc::Global;
 
-/// How many calls the first write makes: make, append, sync the file, rename, sync the folder.
+/// The calls of the first write: make, append, sync the file, rename, sync the folder.
 const FIRST: u64 = 5;
 
-/// How many calls both writes make: the second one gives the new file the mode of the old one.
+/// The calls of both: the second one also gives the new file the mode of the old one.
 const BOTH: u64 = 11;
 
-/// How many bytes the texts of the two writes have: 179 with three pulses, 163 with two. So the
-/// length shows which text it is.
+/// The bytes of the two texts: the length shows which text it is.
 const TEXTS: [usize; 2] = [179, 163];
 
-/// Runs the script of two writes, which write to the name `t`; what is printed goes to `out`.
-/// Returns how the run ended: whether a line was refused, or why it was broken off. `room` is the
-/// memory of the writes.
+/// Both writes are to the name `t`; `room` is their memory.
 fn run_on_files(
     session: &mut Session,
     files: &mut Files<Memory>,
@@ -41,16 +35,15 @@ fn run_on_files(
     )
 }
 
-/// How many bytes a crash after these calls leaves at the name `t`, if it leaves the file there as
-/// it is seen. `None` if no file is there, if what it holds is not kept by a sync, or if memory
-/// runs out. The newest call is the first.
+/// How many bytes a crash after these calls leaves at the name `t`. `None` if no file is there, if
+/// what it holds is not kept by a sync, or if memory runs out.
 pub fn left(alloc: Global, calls: &[Call]) -> Option<usize> {
     let file = file_at(calls, b"t")?;
     let held = bytes_of(alloc, calls, file).ok()?;
     is_kept(calls, file).then_some(held.len())
 }
 
-/// Whether the names were kept by one of the calls: a sync of the folder.
+/// A sync of the folder keeps the names.
 fn is_named(calls: &[Call]) -> bool {
     for call in calls {
         if matches!(call, Call::SyncNames(_)) {
@@ -60,8 +53,7 @@ fn is_named(calls: &[Call]) -> bool {
     false
 }
 
-/// Whether after these calls one of the two texts is at the name `t`, whole. Nothing may be there
-/// only if no sync of the folder has kept a name yet. It is false, too, if memory runs out.
+/// Nothing may be there only if no sync of the folder has kept a name yet.
 fn is_whole(alloc: Global, calls: &[Call]) -> bool {
     match left(alloc, calls) {
         Some(bytes) => TEXTS.contains(&bytes),
@@ -69,8 +61,7 @@ fn is_whole(alloc: Global, calls: &[Call]) -> bool {
     }
 }
 
-/// Whether `is_whole` is true after each of the calls, and before the first: the newest call is the
-/// first in the list, and the newest `left_out` calls are left out, from none of them to all.
+/// The newest `left_out` calls are left out, from none of them to all.
 fn is_whole_at_each_stop(alloc: Global, calls: &[Call]) -> bool {
     for left_out in 0..=calls.len() {
         match calls.get(left_out..) {
@@ -81,9 +72,7 @@ fn is_whole_at_each_stop(alloc: Global, calls: &[Call]) -> bool {
     true
 }
 
-/// Whether the run in which call number `fails` of the disk fails, counted from 0, comes to its
-/// end, prints `printed`, and leaves a whole text at each stop. It is false, too, if memory runs
-/// out.
+/// Call number `fails` of the disk fails, counted from 0.
 fn is_run(alloc: Global, session: &mut Session, fails: u64, printed: &[u8]) -> bool {
     let Ok(mut room) = Room::new(alloc) else {
         return false;
@@ -97,7 +86,6 @@ fn is_run(alloc: Global, session: &mut Session, fails: u64, printed: &[u8]) -> b
         && is_whole_at_each_stop(alloc, files.system().calls())
 }
 
-/// Whether `is_run` is true on a new session of two pulses; false if memory runs out.
 fn is_run_once(alloc: Global, fails: u64, printed: &[u8]) -> bool {
     match two_pulses(alloc) {
         Some(mut session) => is_run(alloc, &mut session, fails, printed),
@@ -105,9 +93,8 @@ fn is_run_once(alloc: Global, fails: u64, printed: &[u8]) -> bool {
     }
 }
 
-/// What is printed if the call of this number, from 0, fails: the write that makes it is refused.
-/// No call has the number `BOTH`, so none is refused then. Only one call fails, so the removal of
-/// the new file succeeds.
+/// What is printed if the call of this number, from 0, fails: its write is refused. No call has the
+/// number `BOTH`. Only one call fails, so the removal of the new file succeeds.
 fn printed_without(fails: u64) -> &'static [u8] {
     match fails {
         0..FIRST => REFUSED[0].1,
@@ -116,8 +103,7 @@ fn printed_without(fails: u64) -> &'static [u8] {
     }
 }
 
-// A crash after each call, and a call that fails, leave a whole text at the path. Each call of the
-// two writes fails in one run, and in the last run none does.
+// In the last run no call fails.
 #[test]
 fn the_writes_of_a_script_are_whole_at_each_stop(rt: HostRuntime) {
     for fails in 0..=BOTH {

@@ -1,14 +1,10 @@
-//! Worked scripts with what each of their lines leaves. A shelf is where `write` writes its texts.
-//!
-//! `write` prints how many bytes the dump has: 125 of its nine first lines, 16 for each pulse (two
-//! edges of three-digit times), and 6 of the line `#1000`: 163 with two pulses, 179 with three.
+//! Worked scripts with what each of their lines leaves.
 
 use irig_edit::Session;
 use irig_script::MemoryShelf;
 
 /// What there is after the lines within the first `read` bytes of a script, which print the first
-/// `printed` bytes of what it prints: `pulses`, `past` steps back, and `texts` written. Both counts
-/// of bytes include newlines.
+/// `printed` bytes of what it prints: `pulses`, `past` steps back, and `texts` written.
 #[derive(Clone, Copy)]
 pub struct Stop {
     pub read: usize,
@@ -18,7 +14,7 @@ pub struct Stop {
     pub texts: usize,
 }
 
-/// A script on pulses 100-120 and 200-280, with a stop before its first line and after each.
+/// A script on two pulses, with a stop before its first line and after each.
 #[derive(Clone, Copy)]
 pub struct Worked<'a> {
     pub script: &'a [u8],
@@ -26,7 +22,7 @@ pub struct Worked<'a> {
     pub stops: &'a [Stop],
 }
 
-/// A script of two writes: an edit, its text, and the text after the edit was undone.
+/// Two writes: an edit, its text, and the text after the edit was undone.
 pub static INVERTED: Worked<'static> = Worked {
     script: b"invert 110 250\n,list\nwrite\nundo\n,list\nwrite\n",
     printed: b"1 100 110 zero\n2 120 200 position\n3 250 280 zero\n179\n1 100 120 zero\n\
@@ -84,8 +80,7 @@ pub static INVERTED: Worked<'static> = Worked {
     ],
 };
 
-/// A script that ends amid a line: that line has no stop, as a failed read or write comes before it
-/// is obeyed.
+/// It ends amid a line, which has no stop: a failed read or write comes before it is obeyed.
 pub static DELETED: Worked<'static> = Worked {
     script: b",list\n1 delete\n1 spl",
     printed: b"1 100 120 zero\n2 200 280 position\n",
@@ -114,12 +109,12 @@ pub static DELETED: Worked<'static> = Worked {
     ],
 };
 
-/// The first bytes of a text: this many, or all if it has fewer.
+/// All bytes if the text has fewer.
 pub fn front(text: &[u8], bytes: usize) -> &[u8] {
     text.split_at(bytes.min(text.len())).0
 }
 
-/// The last stop whose lines are within this many bytes of the script. `None` if there is no stop.
+/// The last stop whose lines are within this many bytes of the script.
 pub fn last_read(stops: &[Stop], bytes: usize) -> Option<Stop> {
     let mut last = None;
     for stop in stops {
@@ -130,9 +125,8 @@ pub fn last_read(stops: &[Stop], bytes: usize) -> Option<Stop> {
     last
 }
 
-/// The first stop whose lines print more than this many bytes, which are all that an output takes.
-/// The last line of the stop could not be printed whole, so it is the last one obeyed. `None` if no
-/// stop prints more.
+/// The first stop whose lines print more than an output takes. Its last line could not be printed
+/// whole, so it is the last one obeyed.
 pub fn first_printing(stops: &[Stop], bytes: usize) -> Option<Stop> {
     for stop in stops {
         if stop.printed > bytes {
@@ -142,8 +136,7 @@ pub fn first_printing(stops: &[Stop], bytes: usize) -> Option<Stop> {
     None
 }
 
-/// Whether session and shelf are those of a stop: how many pulses there are, how many steps back,
-/// and how many texts were written. `read` and `printed` of the stop are not compared.
+/// `read` and `printed` of the stop are not compared.
 pub fn stands(stop: Stop, session: &Session, shelf: &MemoryShelf) -> bool {
     session.len() == stop.pulses
         && session.steps_back() == stop.past

@@ -1,6 +1,4 @@
-//! A script whose witness keeps what it sees, over files in memory. `INVERTED` is that script, with
-//! what it prints. A witness sees the output and the files after each line is obeyed. A screen is
-//! an output with its witness.
+//! A script whose witness keeps what it sees, over files in memory.
 
 ghost use Rattle.std.specs.Prelude.{◌≤◌, ◌^◌, IfSome, length};
 
@@ -14,8 +12,7 @@ use irig_files::Room;
 use irig_script::{Screen, Status};
 use std::alloc::Global;
 
-/// The dump of two pulses, and the format in which it is read, G 2. `None` if memory runs out. The
-/// clause is for `watch`, which takes a dump of at most 2^28 bytes.
+/// Two pulses in format G 2. The clause is for `watch`.
 fn opening(alloc: Global) -> Option<(Vec<u8>, Format)>
     ensures { IfSome result (λ opened. length opened.0.items ≤ 2 ^ 28) }
 {
@@ -24,8 +21,7 @@ fn opening(alloc: Global) -> Option<(Vec<u8>, Format)>
     Some((dump, format))
 }
 
-/// Whether `watch` accepts all lines of the script, prints what `INVERTED` says, and leaves the
-/// text of the last write: that of two pulses, 163 bytes. False if memory runs out.
+/// The text that is left is that of the last write, 163 bytes.
 fn is_right(alloc: Global, room: &mut Room) -> bool {
     let Some((dump, format)) = opening(alloc) else {
         return false;
@@ -48,8 +44,6 @@ fn is_right(alloc: Global, room: &mut Room) -> bool {
         && left(alloc, files.system().calls()) == Some(163)
 }
 
-/// Whether `watch_anew`, which makes its screen and its files itself, accepts all lines of the
-/// script, and leaves the text of the last write, 163 bytes. False if memory runs out.
 fn is_right_anew(alloc: Global, room: &mut Room) -> bool {
     let Some((dump, format)) = opening(alloc) else {
         return false;
@@ -59,8 +53,7 @@ fn is_right_anew(alloc: Global, room: &mut Room) -> bool {
     outcome == Ok(Status::AllAccepted) && left(alloc, files.system().calls()) == Some(163)
 }
 
-// With a witness that keeps what it sees, a script prints and writes the same as without one. If
-// memory runs out for the room, nothing is tested.
+// If memory runs out for the room, nothing is tested.
 #[test]
 fn a_watched_script_prints_and_writes_the_same(rt: HostRuntime) {
     let Ok(mut room) = Room::new(rt.alloc()) else {
