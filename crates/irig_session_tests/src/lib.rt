@@ -1,4 +1,4 @@
-//! Sessions, tested by their public calls. It has no code of its own.
+//! Sessions, tested by their public calls.
 #![tactic(auto)]
 
 #[cfg(test)]

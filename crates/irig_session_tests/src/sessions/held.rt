@@ -1,7 +1,4 @@
-//! How many pulses the steps of a session hold, call by call. A step is what one undo reverses. An
-//! edit in the past (it can be undone) holds the pulses that it removed, one in the future (it can
-//! be redone) those that it inserts; an invert, a shift and a mark hold none. Pulses count from 1,
-//! times are in microseconds, and 0 is the mark `a`.
+//! How many pulses the steps of a session hold, call by call.
 
 use super::helpers::{Call, obey, open};
 use irig_codes::Element;
@@ -12,14 +9,10 @@ use std::process::Abort;
 /// A call, and how many pulses past and future hold after it.
 type Row = (Call, (u128, u128));
 
-/// Makes the call of a row. Whether it is accepted, and past and future then hold as many pulses as
-/// the row says.
 fn leaves(session: &mut Session, (call, held): &Row) -> bool {
     obey(session, *call).is_none() && session.held() == *held
 }
 
-/// Makes the calls of the rows, one after another, on a track of this length and these edges, in
-/// microseconds, and asserts after each what past and future hold.
 fn check(rt: &impl Abort, alloc: Global, length: u64, edges: &[u64], rows: &[Row]) {
     let mut session = open(alloc, length, edges).expect(rt, "a session");
     for row in rows {
@@ -27,7 +20,6 @@ fn check(rt: &impl Abort, alloc: Global, length: u64, edges: &[u64], rows: &[Row
     }
 }
 
-/// Edits of each kind on two pulses.
 static EDITS: [Row; 13] = [
     (Call::Delete(1, 1), (1, 0)),
     (Call::Undo, (0, 0)),
@@ -46,14 +38,11 @@ static EDITS: [Row; 13] = [
     (Call::Undo, (0, 1)),
 ];
 
-// Each edit on two pulses holds the pulses that it removed, and after its undo those that it had
-// inserted. What is wanted follows from the calls alone.
 #[test]
 fn a_step_holds_what_its_edit_took_or_put(rt: HostRuntime) {
     check(&rt, rt.alloc(), 1_000, &[100, 120, 200, 280], &EDITS);
 }
 
-/// Frames on a track without a pulse: `Regen` has where the first begins, and how many there are.
 static FRAMES: [Row; 6] = [
     // Two frames of 100 pulses, where none was.
     (Call::Regen(0, 2), (0, 0)),
@@ -65,7 +54,6 @@ static FRAMES: [Row; 6] = [
     (Call::Regen(0, 1), (100, 0)),
 ];
 
-// Frames that are generated: 100 pulses each, held once they are undone or replaced.
 #[test]
 fn frames_that_are_taken_back_are_held(rt: HostRuntime) {
     check(&rt, rt.alloc(), 20_000, &[], &FRAMES);

@@ -1,5 +1,4 @@
-//! Tracks, and calls of a session as values, for tests. Times, lengths and edges are in
-//! microseconds; pulses count from 1.
+//! Tracks, and calls of a session as values, for tests.
 
 use irig_codes::{Element, Format, Kind};
 use irig_edit::{Refusal, Session};
@@ -7,13 +6,9 @@ use irig_moment::Moment;
 use irig_recording::Recording;
 use std::alloc::Global;
 
-/// A call of a row. `Insert` has the rise and the fall of the new pulse; `Delete` and `Join` the
-/// first and the last pulse, and so has `Shift`, with the microseconds by which they move; `Split`
-/// a pulse, and from when to when its level becomes low; `Invert` from when to when the level is
-/// inverted; `Force` the pulse that gets the width of the element; `Format` a kind and an
-/// expression. `Mark` has a letter, 0 for `a`, and its time, `None` to clear it; `Regen` a time and
-/// how many frames are generated from there on, from the begin of 2024 on, without control bits;
-/// `Go` the pulse to which the cursor goes. `Begin`, `End` and `Abort` are calls on a group.
+/// `Delete`, `Join` and `Shift` have a first and a last pulse, `Shift` also how far; `Insert`,
+/// `Split` and `Invert` from when to when; `Mark` 0 for `a`, and `None` to clear it; `Regen` a time
+/// and how many frames.
 #[derive(Clone, Copy)]
 pub enum Call {
     Insert(u64, u64),
@@ -34,24 +29,18 @@ pub enum Call {
     Abort,
 }
 
-/// A session in format G 2 on a track of this length with these edges. Its cursor is at the last
-/// pulse, as in each new session. `None` if the edges are not those of a track of this length, or
-/// memory runs out.
+/// A session in format G 2. `None` also if the edges are not those of such a track.
 pub fn open(alloc: Global, length: u64, edges: &[u64]) -> Option<Session> {
     let format = Format::new(Kind::G, 2).ok()?;
     let recording = Recording::new(alloc, length, edges).ok()??;
     Session::open(alloc, recording, format).ok()
 }
 
-/// A session on a track of 1,000 microseconds with pulses 100 to 120 and 200 to 280. `None` only if
-/// memory runs out.
 pub fn two_pulses(alloc: Global) -> Option<Session> {
     open(alloc, 1_000, &[100, 120, 200, 280])
 }
 
-/// Generates `frames` frames from `start`, in microseconds, on. The first carries the begin of
-/// 2024. An error is what `Session::regen` refuses the call for. The text of the moment can be
-/// read, so the `BadTime` below never comes.
+/// The first frame carries the begin of 2024. The text can be read, so `BadTime` never comes.
 fn regen(session: &mut Session, start: u64, frames: u64) -> Result<(), Refusal> {
     match Moment::parse(b"2024-001T00:00:00") {
         Some(moment) => session.regen(start, frames, moment, 0),
@@ -59,8 +48,6 @@ fn regen(session: &mut Session, start: u64, frames: u64) -> Result<(), Refusal> 
     }
 }
 
-/// Sets the format of a kind and an expression. `BadExpression` if the kind does not permit the
-/// expression; any other error is one of `Session::format`.
 fn set_format(session: &mut Session, kind: Kind, expression: u8) -> Result<(), Refusal> {
     match Format::new(kind, expression) {
         Ok(format) => session.format(format),
@@ -68,7 +55,7 @@ fn set_format(session: &mut Session, kind: Kind, expression: u8) -> Result<(), R
     }
 }
 
-/// Makes a call, and returns what refuses it; `None` if it is accepted.
+/// What refuses a call; `None` if it is accepted.
 pub fn obey(session: &mut Session, call: Call) -> Option<Refusal> {
     let answer = match call {
         Call::Insert(a, b) => session.insert(a, b),
@@ -92,7 +79,6 @@ pub fn obey(session: &mut Session, call: Call) -> Option<Refusal> {
     answer.err()
 }
 
-/// Whether the text of the saved session is just this dump. It is false, too, if memory runs out.
 pub fn is_saved(session: &Session, dump: &[u8]) -> bool {
     match session.saved() {
         Ok(text) => text.as_slice() == dump,

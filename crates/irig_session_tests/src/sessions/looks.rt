@@ -1,8 +1,4 @@
-//! How many looks at pulses calls take, and the frames that they leave, call by call. A look is one
-//! read of a pulse to keep the frames true; a frame begins with its marker, a pulse. The bound of
-//! an edit is that of `Index::repair` (irig_index): `3 * (new + 200)` looks, if `new` pulses come.
-//! `Regen` has a time, in microseconds, and how many frames of 100 pulses are generated from there
-//! on; pulses count from 1.
+//! How many looks at pulses calls take, and the frames that they leave, call by call.
 
 use super::helpers::{Call, obey, open};
 use irig_codes::{Element, Kind};
@@ -10,12 +6,10 @@ use irig_edit::{Session, generated_frames_read_back};
 use std::alloc::Global;
 use std::process::Abort;
 
-/// A call; how many frames there are after it, and the numbers, from 1, of the markers of the first
-/// and the last; and how many looks the last change took at most.
+/// A call; how many frames there are after it, and the numbers of the markers of the first and the
+/// last; and how many looks the last change took at most.
 type Row = (Call, [usize; 3], u64);
 
-/// How many frames the track has, and the numbers of two pulses, from 1: the markers of the first
-/// frame and of the last; all 0 if there is no frame.
 fn frames(session: &Session) -> [usize; 3] {
     let count = session.frames();
     if count == 0 {
@@ -25,15 +19,11 @@ fn frames(session: &Session) -> [usize; 3] {
     }
 }
 
-/// Whether a call is accepted, leaves the frames of its row, and takes no more looks than the row
-/// says.
 fn leaves(session: &mut Session, (call, left, most): &Row) -> bool {
     let accepted = obey(session, *call).is_none();
     accepted && session.last_looks() <= *most && frames(session) == *left
 }
 
-/// Makes the calls of the rows, one after another, on a track of this length, in microseconds,
-/// without a pulse, and asserts that each leaves the frames of its row and takes no more looks.
 fn check(rt: &impl Abort, alloc: Global, length: u64, rows: &[Row]) {
     let mut session = open(alloc, length, &[]).expect(rt, "a session");
     for row in rows {
@@ -41,8 +31,7 @@ fn check(rt: &impl Abort, alloc: Global, length: u64, rows: &[Row]) {
     }
 }
 
-/// Edits of a million pulses. The first generated frame is none: no pulse is before its marker. The
-/// bound of the first is for all new pulses; no later one depends on the number of pulses.
+/// The first generated frame is none: no pulse is before its marker.
 static MILLION: [Row; 5] = [
     // 3 * (1,000,000 + 200) looks.
     (Call::Regen(0, 10_000), [9_999, 101, 999_901], 3_000_600),
@@ -59,9 +48,6 @@ static MILLION: [Row; 5] = [
     (Call::Mark(0, Some(5)), [9_999, 100, 999_900], 0),
 ];
 
-// An edit of a track of a million pulses takes some hundred looks, however many pulses there are.
-// Only the generation of the million takes more. The bounds of `MILLION` are those of
-// `Index::repair`.
 #[test]
 fn an_edit_of_a_million_pulses_looks_in_its_window(rt: HostRuntime) {
     check(&rt, rt.alloc(), 100_000_000, &MILLION);
@@ -70,12 +56,10 @@ fn an_edit_of_a_million_pulses_looks_in_its_window(rt: HostRuntime) {
 /// An edit of each kind. `Go` is no change, so the looks of the undo before it stay. A new format
 /// reads all frames again, for which 100 looks a pulse are more than enough.
 static EACH_KIND: [Row; 8] = [
-    // 1,000 pulses come.
     (Call::Regen(0, 10), [9, 101, 901], 3_600),
     // Two pulses come: they move by one microsecond, which changes no frame.
     (Call::Shift(3, 4, 1), [9, 101, 901], 606),
-    // The marker at 30,000 is cut in two, so one frame goes, and later pulses have a number higher
-    // by one. The bound is that of three new pulses.
+    // The marker at 30,000 is cut in two, so one frame goes. The bound is that of three new pulses.
     (Call::Invert(30_050, 30_060), [8, 101, 902], 609),
     (Call::Undo, [9, 101, 901], 606),
     (Call::Go(7), [9, 101, 901], 606),
@@ -84,9 +68,7 @@ static EACH_KIND: [Row; 8] = [
     (Call::Undo, [9, 101, 901], 100_000),
 ];
 
-// An edit of each kind takes no more looks than `Index::repair` allows, but for a new format, which
-// reads all frames again. The call `generated_frames_read_back` does nothing: its contract is the
-// law that generated frames are read as they were made.
+// The last call does nothing: its contract says that generated frames are read as they were made.
 #[test]
 fn each_kind_of_edit_looks_in_its_window(rt: HostRuntime) {
     check(&rt, rt.alloc(), 100_000, &EACH_KIND);

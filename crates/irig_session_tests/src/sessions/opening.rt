@@ -1,8 +1,4 @@
-//! Dumps with a journal, the history of a session: each is opened, or the number of its wrong line
-//! is found. A journal has the format, the cursor, which is the pulse at which the session is (0
-//! for none), the marks, and the steps that can be undone (`past`) and redone (`future`). `splice 1
-//! 0 1` replaces 0 pulses from pulse 1 on by 1 of the next line. Lines count from 1, which is
-//! `irig-journal-1`, so the lines of a row begin with 2.
+//! Dumps with a journal: each is opened, or the number of its wrong line is found.
 
 use super::helpers::is_saved;
 use irig_codes::{Format, Kind};
@@ -11,7 +7,7 @@ use irig_vcd::VcdFault;
 use std::alloc::{AllocError, Global};
 use std::process::Abort;
 
-/// The lines of a journal, after its name, and the number of the wrong line; `None` if none is
+/// The lines of a journal from line 2 on, and the number of the wrong line; `None` if none is
 /// wrong.
 type Row = (&'static [u8], Option<usize>);
 
@@ -21,8 +17,6 @@ const BEGIN: &[u8] =
     $enddefinitions $end\n#0\n$dumpvars\n0!\n$end\n#200\n1!\n#280\n0!\n#1000\n$comment\n\
     irig-journal-1\n";
 
-/// The dump of `BEGIN` with a journal of these lines, which come after the name of the journal. It
-/// fails only if memory runs out.
 fn dump(alloc: Global, lines: &[u8]) -> Result<Vec<u8>, AllocError> {
     let mut text = Vec::new(alloc);
     text.extend_from_slice(BEGIN)?;
@@ -31,22 +25,15 @@ fn dump(alloc: Global, lines: &[u8]) -> Result<Vec<u8>, AllocError> {
     Ok(text)
 }
 
-/// Opens the session of the dump of `BEGIN` with a journal of these lines, or returns the fault:
-/// `BadJournal` has the number of the wrong line. The session has the format of the journal.
-/// `OutOfMemory`: memory ran out. It comes also for a text of more than 1,000 bytes, but no row has
-/// one.
 fn opened(alloc: Global, lines: &[u8]) -> Result<Session, VcdFault> {
     let text = dump(alloc, lines)?;
-    // Another format than that of the rows: the journal's is taken. The bound on the text is for
-    // the contract of `open_dump`, which asks for at most 2^28 bytes.
+    // The journal's format is taken, not this one. The bound is for the contract of `open_dump`.
     match Format::new(Kind::B, 0) {
         Ok(format) if text.len() <= 1_000 => Session::open_dump(alloc, text, None, format),
         _ => Err(VcdFault::OutOfMemory),
     }
 }
 
-/// Whether a session is saved as the dump of `BEGIN` with a journal of these lines. It is false,
-/// too, if memory runs out.
 fn is_saved_with(alloc: Global, session: &Session, lines: &[u8]) -> bool {
     match dump(alloc, lines) {
         Ok(same) => is_saved(session, same.as_slice()),
@@ -54,9 +41,7 @@ fn is_saved_with(alloc: Global, session: &Session, lines: &[u8]) -> bool {
     }
 }
 
-/// Whether the journal of these lines is answered as a row says. If `line` is a number, the line of
-/// that number has to be found as the wrong one. If `line` is `None`, the journal has to be opened,
-/// and to be saved again as the same lines. Any other fault is false.
+/// A journal that is opened has to be saved again as the same lines.
 fn has_fault(alloc: Global, lines: &[u8], line: Option<usize>) -> bool {
     match opened(alloc, lines) {
         Ok(session) => line.is_none() && is_saved_with(alloc, &session, lines),
@@ -65,18 +50,14 @@ fn has_fault(alloc: Global, lines: &[u8], line: Option<usize>) -> bool {
     }
 }
 
-/// Asserts for each row that its journal is opened and saved again, or that its wrong line is
-/// found, as the row says.
 fn check(rt: &impl Abort, alloc: Global, rows: &[Row]) {
     for (lines, line) in rows {
         assert!(rt; has_fault(alloc, lines, *line));
     }
 }
 
-/// Lines of journals, each with its wrong line: 2 is `format`, 3 `cursor`, and without marks 4 is
-/// `past`. A step is at fault at its line `at`. The track has one pulse.
+/// Line 2 is `format`, 3 `cursor`, without marks 4 `past`. A step is at fault at its line `at`.
 static ROWS: [Row; 12] = [
-    // Each step can be made.
     (
         b"format G 2\ncursor 1\npast 1\nat 2\nsplice 1 0 1\n100 120\nfuture 1\nat 1\n\
         setmark a 110\n",
@@ -129,8 +110,7 @@ static ROWS: [Row; 12] = [
         b"format G 2\ncursor 1\npast 0\nfuture 1\nat 0\ngroup 2\nsplice 1 1 0\nsplice 1 1 0\n",
         Some(6),
     ),
-    // The newest step of the past is last in the lines, and is tried first: it removes the pulse,
-    // and then the older step inserts one.
+    // The newest step of the past is last in the lines, and is tried first: it removes the pulse.
     (
         b"format G 2\ncursor 1\npast 2\nat 0\nsplice 1 0 1\n100 120\nat 0\nsplice 1 1 0\n\
         future 0\n",
@@ -143,8 +123,7 @@ static ROWS: [Row; 12] = [
     ),
 ];
 
-// A journal of the right form whose steps can be made is opened; else the first wrong line is
-// found, in the order that `docs/FORMATS.md` has under "The line at fault".
+// The order of lines is that of `docs/FORMATS.md`, "The line at fault".
 #[test]
 fn a_journal_opens_or_its_line_at_fault_is_told(rt: HostRuntime) {
     check(&rt, rt.alloc(), &ROWS);

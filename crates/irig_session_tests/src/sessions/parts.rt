@@ -1,6 +1,4 @@
-//! A saved session that is given in parts, block by block, against its text. A block is where parts
-//! are collected until it has enough bytes. The session has two pulses, 100 to 120 and 200 to 280
-//! microseconds.
+//! A saved session that is given in parts, block by block, against its text.
 
 use super::helpers::{Call, is_saved, obey, two_pulses};
 use irig_edit::Session;
@@ -8,8 +6,7 @@ use irig_text::{Text, new_block};
 use std::alloc::{AllocError, Global};
 use std::process::Abort;
 
-/// A mark, a delete of both pulses, a group of two inserts, and a mark that `check` undoes. A mark
-/// is a letter, 0 for `a` and 25 for `z`, with a time in microseconds.
+/// A mark, a delete of both pulses, a group of two inserts, and a mark that `check` undoes.
 static CALLS: [Call; 7] = [
     Call::Mark(0, Some(110)),
     Call::Delete(1, 2),
@@ -20,8 +17,7 @@ static CALLS: [Call; 7] = [
     Call::Mark(25, Some(110)),
 ];
 
-/// The text of the session that these calls leave, after an undo, as it is saved by
-/// `docs/FORMATS.md`: the track, and the journal as a comment.
+/// By `docs/FORMATS.md`: the track, and the journal as a comment.
 static TEXT: &[u8] = b"$timescale 1 us $end
 $scope module irig $end
 $var wire 1 ! code $end
@@ -62,8 +58,7 @@ setmark z 110
 $end
 ";
 
-/// All blocks of a session's text, put together. Each block but the last has at least `enough`
-/// bytes. The text has less than 1,000 bytes, so 1,000 blocks suffice; more are an error.
+/// The text has less than 1,000 bytes, so 1,000 blocks suffice; more are an error.
 fn joined(alloc: Global, session: &Session, enough: usize) -> Result<Vec<u8>, AllocError> {
     let mut all = Vec::new(alloc);
     let mut block = new_block(alloc)?;
@@ -79,8 +74,6 @@ fn joined(alloc: Global, session: &Session, enough: usize) -> Result<Vec<u8>, Al
     Err(AllocError)
 }
 
-/// Whether the blocks of a session's text, each but the last of at least `enough` bytes, are `TEXT`
-/// if they are put together. It is false, too, if memory runs out.
 fn is_joined(alloc: Global, session: &Session, enough: usize) -> bool {
     match joined(alloc, session, enough) {
         Ok(all) => all.as_slice() == TEXT,
@@ -88,9 +81,6 @@ fn is_joined(alloc: Global, session: &Session, enough: usize) -> bool {
     }
 }
 
-/// Makes the calls of `CALLS` on two pulses, and an undo. Asserts that the session is saved as
-/// `TEXT`, and for each of `sizes` that its blocks, each but the last of at least that many bytes,
-/// are `TEXT` if they are put together.
 fn check(rt: &impl Abort, alloc: Global, sizes: &[usize]) {
     let mut session = two_pulses(alloc).expect(rt, "a session");
     for call in &CALLS {
@@ -103,8 +93,6 @@ fn check(rt: &impl Abort, alloc: Global, sizes: &[usize]) {
     }
 }
 
-// The blocks of a saved session are its text: blocks of a line or a few (at least 1, 7 or 100
-// bytes), and one block for all.
 #[test]
 fn the_parts_of_a_saved_session_are_its_text(rt: HostRuntime) {
     check(&rt, rt.alloc(), &[1, 7, 100, 65_536]);

@@ -1,38 +1,27 @@
-//! Sessions saved after calls, against the journal's lines that follow from these calls by
-//! `docs/FORMATS.md`. A journal is the history of a session: its cursor, which is the pulse at
-//! which it is, its marks, and the steps that can be undone (`past`) and redone (`future`). `splice
-//! 1 0 1` replaces 0 pulses from pulse 1 on by 1 of the next line. Each session begins with two
-//! pulses, 100 to 120 and 200 to 280 microseconds. Pulses count from 1; mark 0 is `a`, and 25 is
-//! `z`.
+//! Sessions saved after calls, against the journal's lines that follow from `docs/FORMATS.md`.
 
 use super::helpers::{Call, is_saved, obey, two_pulses};
 use irig_edit::Session;
 use std::alloc::{AllocError, Global};
 use std::process::Abort;
 
-/// Calls on two pulses, with the cursor at the second, and the lines of the journal that is saved
-/// after them, without the first, which names it. A line `at` is the cursor before the edit for a
+/// Calls, and the lines of the journal after the first. `at` is the cursor before the edit for a
 /// step of the past, and the one after it for a step of the future.
 type Row = (&'static [Call], &'static [u8]);
 
-/// Appends the comment with a journal of these lines. It fails only if memory runs out.
 fn put_journal(text: &mut Vec<u8>, lines: &[u8]) -> Result<(), AllocError> {
     text.extend_from_slice(b"$comment\nirig-journal-1\n")?;
     text.extend_from_slice(lines)?;
     text.extend_from_slice(b"$end\n")
 }
 
-/// The dump of a session's track, as `Session::text` gives it, with a journal of these lines. It
-/// fails only if memory runs out.
 fn dump_with(session: &Session, lines: &[u8]) -> Result<Vec<u8>, AllocError> {
     let mut text = session.text()?;
     put_journal(&mut text, lines)?;
     Ok(text)
 }
 
-/// Makes the calls of a row on a session. Whether the session is saved then as the dump of its
-/// track with a journal of the row's lines. Whether a call is refused is not compared, only what
-/// all of them leave. It is false, too, if memory runs out.
+/// Whether a call is refused is not compared, only what all of them leave.
 fn is_saved_after(session: &mut Session, (calls, lines): &Row) -> bool {
     for call in *calls {
         obey(session, *call);
@@ -43,8 +32,6 @@ fn is_saved_after(session: &mut Session, (calls, lines): &Row) -> bool {
     }
 }
 
-/// Makes the calls of each row on a new session of two pulses, and asserts that the lines of the
-/// row are saved.
 fn check(rt: &impl Abort, alloc: Global, rows: &[Row]) {
     for row in rows {
         let mut session = two_pulses(alloc).expect(rt, "a session");
@@ -52,7 +39,6 @@ fn check(rt: &impl Abort, alloc: Global, rows: &[Row]) {
     }
 }
 
-/// Steps of each kind, and what they lead to.
 static STEPS: [Row; 4] = [
     // The delete is undone by a splice that inserts 100 to 120 as pulse 1; the mark is redone.
     (
@@ -83,14 +69,11 @@ static STEPS: [Row; 4] = [
     ),
 ];
 
-// A step of the past is saved as the change that undoes the step, a step of the future as the
-// change that redoes it.
 #[test]
 fn each_step_is_saved_as_the_change_that_leads_there(rt: HostRuntime) {
     check(&rt, rt.alloc(), &STEPS);
 }
 
-/// Groups, made and undone, and one that is open.
 static GROUPS: [Row; 3] = [
     // To be undone: the newest change first.
     (
@@ -130,8 +113,6 @@ static GROUPS: [Row; 3] = [
     ),
 ];
 
-// The changes of a group are saved in the order in which its undo makes them, or its redo if the
-// group is undone. The steps of an open group are saved one by one.
 #[test]
 fn a_group_is_saved_in_the_order_of_its_turn(rt: HostRuntime) {
     check(&rt, rt.alloc(), &GROUPS);
