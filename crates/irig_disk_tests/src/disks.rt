@@ -1,10 +1,4 @@
-//! Tests of irig_disk: a text of three blocks is written over an old one, stopped and failed at
-//! each call.
-//!
-//! The target is the name `t`, and the stem `next`, so the new file has the name `next0` until it
-//! takes the target's. A folder in memory (irig_folders) is the log of the calls on it, the newest
-//! first: what it is without its newest calls is what a stop before them leaves. A block has 64 KiB
-//! (`ENOUGH`).
+//! A text of three blocks, written over an old one, stopped and failed at each call.
 
 ghost use Rattle.std.specs.Prelude.{◌≡◌};
 
@@ -13,9 +7,7 @@ use irig_folders::{Call, Memory, MemoryFault, bytes_of, file_at, is_kept};
 use irig_text::{Bytes, ENOUGH, Text};
 use std::alloc::{AllocError, Global};
 
-/// A text that finds no memory for its part number `fails_at`, counted from 0. With `None` each
-/// part finds some. `given` is how many parts were given. A part is what one call of `fill` gives:
-/// here a block.
+/// A text that finds no memory for its part number `fails_at`, from 0; `given` are given so far.
 #[derive(Drop)]
 struct Failing<T: Text> {
     text: T,
@@ -26,8 +18,6 @@ struct Failing<T: Text> {
 impl<T: Text> Text for Failing<T> {
     ghost rest = { λ f. T.rest f.text };
 
-    // Adds the next part of the text to the block, as `text` does, and returns whether the text has
-    // ended. Part `fails_at` fails before anything is added.
     fn fill(&mut self, block: &mut Vec<u8>, enough: usize) -> Result<bool, AllocError> {
         if self.fails_at == Some(self.given) {
             return Err(AllocError);
@@ -37,8 +27,7 @@ impl<T: Text> Text for Failing<T> {
     }
 }
 
-/// Writes these bytes at the name `t`, as a text whose part `fails_at` finds no memory, and returns
-/// the answer of `put_text`. The `None` given to `put_text` is for the usual mode.
+/// The answer of a write at the name `t`. The `None` given to `put_text` is for the usual mode.
 fn write(
     alloc: Global,
     folder: &mut Memory,
@@ -64,14 +53,13 @@ fn write(
     )
 }
 
-/// A text of three blocks: two full ones, and one byte. It fails only if memory runs out.
+/// Two full blocks, and one byte.
 fn new_text(alloc: Global) -> Result<Vec<u8>, AllocError> {
     let mut text = Vec::new(alloc);
     text.resize(2 * ENOUGH + 1, b'n')?;
     Ok(text)
 }
 
-/// A folder with the text `old` at the name `t`. `None` if that could not be written.
 fn old_folder(alloc: Global) -> Option<Memory> {
     let mut folder = Memory::new(alloc);
     match write(alloc, &mut folder, b"old", None) {
@@ -80,9 +68,7 @@ fn old_folder(alloc: Global) -> Option<Memory> {
     }
 }
 
-/// Whether the name `t` leads, after these calls, the newest first, to a file with these bytes, and
-/// no crash would lose them now (`is_kept`). It is false, too, if `t` leads to no file, or memory
-/// runs out.
+/// Whether the name `t` has these bytes, and no crash would lose them now (`is_kept`).
 fn holds(alloc: Global, calls: &[Call], bytes: &[u8]) -> bool {
     let Some(file) = file_at(calls, b"t") else {
         return false;
@@ -93,8 +79,6 @@ fn holds(alloc: Global, calls: &[Call], bytes: &[u8]) -> bool {
     }
 }
 
-/// Whether a write of the text `new` over `old`, in a folder of its own, is as `is_written` says:
-/// at each stop one of the two texts is there, whole. It is false, too, if `old` cannot be written.
 fn is_whole_at_each_stop(alloc: Global, new: &[u8]) -> bool {
     match old_folder(alloc) {
         Some(mut folder) => is_written(alloc, &mut folder, new),
@@ -102,8 +86,6 @@ fn is_whole_at_each_stop(alloc: Global, new: &[u8]) -> bool {
     }
 }
 
-/// Whether the text `new` is written by the seven calls that `STOPS` names, in this folder with the
-/// old text, and at each stop the text that `STOPS` says is there, whole.
 fn is_written(alloc: Global, folder: &mut Memory, new: &[u8]) -> bool {
     let before = folder.calls().len();
     match write(alloc, folder, new, None) {
@@ -116,8 +98,6 @@ fn is_written(alloc: Global, folder: &mut Memory, new: &[u8]) -> bool {
     }
 }
 
-/// Whether at each stop of `STOPS` the text is there, whole, that its row says: the new one or the
-/// old one.
 fn is_whole(alloc: Global, calls: &[Call], new: &[u8]) -> bool {
     for (left_out, is_new) in STOPS.iter() {
         if !holds_without(alloc, calls, *left_out, if *is_new { new } else { b"old" }) {
@@ -127,8 +107,7 @@ fn is_whole(alloc: Global, calls: &[Call], new: &[u8]) -> bool {
     true
 }
 
-/// Whether the name `t` has these bytes, as `holds` says, if the newest `left_out` calls are left
-/// out. It is false if there are not that many calls.
+/// The same without the newest `left_out` calls.
 fn holds_without(alloc: Global, calls: &[Call], left_out: usize, bytes: &[u8]) -> bool {
     match calls.get(left_out..) {
         Some(calls) => holds(alloc, calls, bytes),
@@ -151,16 +130,13 @@ static STOPS: [(usize, bool); 8] = [
     (7, false),
 ];
 
-/// A write that fails: from which call on calls fail, up to which one, which is not included, both
-/// from 0; for which part the text finds no memory; the answer; whether the new text is there then,
-/// and whether the new file remains next to it. The calls are numbered in the order that `STOPS`
-/// has: 0 is make, 1 to 3 append, 4 the sync of the file, 5 rename, 6 the sync of the folder. After
-/// a fault the removal of the new file is the next call. No call has number 7, so 7 to 8 lets none
-/// fail.
+/// From which call on calls fail, up to which one, which is not included, both from 0 and in the
+/// order of `STOPS`; for which part the text finds no memory; the answer; whether the new text is
+/// there then, and whether the new file remains. After a fault its removal is the next call. No
+/// call has number 7.
 type Fault = (u64, u64, Option<u64>, &'static str, bool, bool);
 
-/// Writes with what fails, and what each leaves. No row has `NamesTaken`: no name of a new file is
-/// in use.
+/// No row has `NamesTaken`: no name of a new file is in use.
 static FAULTS: [Fault; 15] = [
     // One call fails, and the removal of the new file succeeds; if make fails, there is none.
     (0, 1, None, "Failed", false, false),
@@ -180,12 +156,9 @@ static FAULTS: [Fault; 15] = [
     // Part 1 finds no memory after make and one append, so call 2 is the removal.
     (7, 8, Some(1), "Memory", false, false),
     (2, 3, Some(1), "Remains", false, true),
-    // Nothing fails.
     (7, 8, None, "Kept", true, false),
 ];
 
-/// The name of an answer, as the rows of `FAULTS` have it: `Kept` if the text was written, else the
-/// fault.
 fn name_of(answer: &Result<Kept, PutFault<MemoryFault>>) -> &'static str {
     match answer {
         Ok(_) => "Kept",
@@ -198,7 +171,6 @@ fn name_of(answer: &Result<Kept, PutFault<MemoryFault>>) -> &'static str {
     }
 }
 
-/// Whether each write of `FAULTS` leaves what its row says.
 fn are_left(alloc: Global, new: &[u8]) -> bool {
     for row in FAULTS.iter() {
         if !is_left(alloc, new, *row) {
@@ -208,7 +180,6 @@ fn are_left(alloc: Global, new: &[u8]) -> bool {
     true
 }
 
-/// Whether the write of a row of `FAULTS`, in a folder of its own, leaves what the row says.
 fn is_left(alloc: Global, new: &[u8], row: Fault) -> bool {
     match old_folder(alloc) {
         Some(mut folder) => leaves(alloc, &mut folder, new, row),
@@ -216,8 +187,6 @@ fn is_left(alloc: Global, new: &[u8], row: Fault) -> bool {
     }
 }
 
-/// Whether the write of a row, in this folder with the old text, gives the answer of the row, and
-/// leaves the text of the row at the name `t`, and the new file `next0` only if the row says so.
 fn leaves(alloc: Global, folder: &mut Memory, new: &[u8], row: Fault) -> bool {
     let (from, to, fails_at, answer, is_new, remains) = row;
     folder.fail(from, to);
@@ -227,7 +196,6 @@ fn leaves(alloc: Global, folder: &mut Memory, new: &[u8], row: Fault) -> bool {
         && file_at(folder.calls(), b"next0").is_some() == remains
 }
 
-// A crash after each call of a write leaves the old text or the new one, as `STOPS` says.
 #[test]
 fn a_text_of_three_blocks_is_whole_at_each_stop(rt: HostRuntime) {
     let Ok(new) = new_text(rt.alloc()) else {
@@ -237,9 +205,7 @@ fn a_text_of_three_blocks_is_whole_at_each_stop(rt: HostRuntime) {
     assert!(rt; is_whole_at_each_stop(rt.alloc(), &new));
 }
 
-// A call that fails, and memory that runs out, leave the old text, and the fault says whether the
-// new file remains. Only if the last sync fails, the new text is there. The rows of `FAULTS` follow
-// from what irig_disk says of each `PutFault`.
+// The rows of `FAULTS` follow from what irig_disk says of each `PutFault`.
 #[test]
 fn a_text_of_three_blocks_fails_at_each_call(rt: HostRuntime) {
     let Ok(new) = new_text(rt.alloc()) else {

@@ -1,4 +1,4 @@
-//! Writes of texts, tested over folders in memory. It has no code of its own.
+//! Writes of texts, tested over folders in memory.
 #![tactic(auto)]
 
 #[cfg(test)]

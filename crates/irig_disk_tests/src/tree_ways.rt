@@ -1,10 +1,4 @@
-//! Tests of irig_files: what is not written, what is written in place, and how many links are
-//! followed.
-//!
-//! Each write is of the text `new` to a path in the folders of `tree_folders`: `chain`, `loop`,
-//! `piped` and `a/answered` are links there, `pipe` is a pipe, and `answers` the standard output.
-//! `blind` is the call that fails, of those that change nothing. The log of a tree has the calls
-//! that changed something.
+//! What is not written, what is written in place, and how many links are followed.
 
 use crate::tree_folders::{files_of, folders, row_of, write};
 use crate::tree_stops::is_written;
@@ -12,8 +6,7 @@ use irig_files::Written;
 use irig_folders::{MemoryFault, Plain, Tree};
 use std::alloc::Global;
 
-/// Whether a write to a path in this tree returns an error, and no call changed anything. `blind`
-/// is the call that fails, if one does.
+/// Whether no call changes anything. `blind` is the one that fails, of those that change nothing.
 fn is_refused(alloc: Global, mut tree: Tree, path: &str, blind: Option<Plain>) -> bool {
     let before = tree.memory.calls().len();
     tree.blind = blind;
@@ -21,8 +14,6 @@ fn is_refused(alloc: Global, mut tree: Tree, path: &str, blind: Option<Plain>) -
     write(alloc, &mut files, path).is_err() && files.system().memory.calls().len() == before
 }
 
-/// Whether a write to a path is refused in the folders of `tree_folders`, without a change. They
-/// are made for this one write. It is false, too, if memory runs out for them.
 fn is_refused_once(alloc: Global, path: &str, blind: Option<Plain>) -> bool {
     match folders(alloc) {
         Ok(tree) => is_refused(alloc, tree, path, blind),
@@ -48,8 +39,6 @@ static REFUSED: [(&str, Option<Plain>); 11] = [
     ("pipe", Some(Plain::OpenOther)),
 ];
 
-// A loop, a file that must not be written, a path without a folder or a name, and a call that fails
-// before the new file is made change nothing.
 #[test]
 fn a_write_that_is_refused_changes_nothing(rt: HostRuntime) {
     for (path, blind) in REFUSED.iter() {
@@ -57,8 +46,7 @@ fn a_write_that_is_refused_changes_nothing(rt: HostRuntime) {
     }
 }
 
-/// Whether the text is written in place to a path of the folders of `tree_folders`: all three bytes
-/// of it, without a call that makes or changes a file. It is false, too, if the write fails.
+/// All three bytes are written, without a call that makes or changes a file.
 fn is_in_place(alloc: Global, path: &str) -> bool {
     let Ok(tree) = folders(alloc) else {
         return false;
@@ -73,8 +61,6 @@ fn is_in_place(alloc: Global, path: &str) -> bool {
         }
 }
 
-// What is no regular file is written in place, and so is the file that the answers go to, through a
-// link too.
 #[test]
 fn a_pipe_and_the_standard_output_are_written_in_place(rt: HostRuntime) {
     for path in ["pipe", "piped", "answers", "a/answered"].iter() {
@@ -82,8 +68,7 @@ fn a_pipe_and_the_standard_output_are_written_in_place(rt: HostRuntime) {
     }
 }
 
-/// Adds `count` links to a tree; `count` is at least 1. The link `0` leads to `1`, and so on, and
-/// the last one to the file `a/t`. It fails only if memory runs out.
+/// The link `0` leads to `1`, and so on, and the last one to `a/t`; `count` is at least 1.
 fn add_links(alloc: Global, tree: &mut Tree, count: u32) -> Result<(), MemoryFault> {
     for number in 0..count {
         let place = format!(in alloc; "/{number}")?;
@@ -97,8 +82,7 @@ fn add_links(alloc: Global, tree: &mut Tree, count: u32) -> Result<(), MemoryFau
     Ok(())
 }
 
-/// Whether a write to `0`, which leads to the file `a/t` through `count` links, is done, if
-/// `is_done` says so; else whether it is refused without a change.
+/// Whether the write to `0` is done just if `is_done` says so, and else changes nothing.
 fn links_are_followed(alloc: Global, count: u32, is_done: bool) -> bool {
     let Ok(mut tree) = folders(alloc) else {
         return false;
@@ -114,7 +98,7 @@ fn links_are_followed(alloc: Global, count: u32, is_done: bool) -> bool {
     }
 }
 
-// Forty links are followed, and no more: the limit in `docs/FORMATS.md`, "How a file is written".
+// The limit is in `docs/FORMATS.md`, "How a file is written".
 #[test]
 fn forty_links_are_followed(rt: HostRuntime) {
     assert!(rt; links_are_followed(rt.alloc(), 40, true));
