@@ -8,7 +8,7 @@ use std::alloc::Global;
 /// More than the limit of the program, 40, so that a test meets that one.
 const LIMIT: u64 = 64;
 
-/// With 04000 and 02000, octal, a program in it runs as the file's owner and group; 01000 is sticky.
+/// With 04000 and 02000, octal, a program runs as the file's owner and group; 01000 is sticky.
 pub const OLD_MODE: u32 = 0o7640;
 
 /// After a write: who may read, write and run the file, and no other bit.

@@ -24,8 +24,7 @@ enum Wanted {
     Fault(VcdFault),
 }
 
-/// Changes after `HEADER`, which counts in the offset of a fault, and what the dump has to be read
-/// as.
+/// Changes after `HEADER`, which counts in the offset of a fault, and what they are read as.
 type Row = (&'static str, Wanted);
 
 fn is_recording(recording: &Recording, want: &Wanted) -> bool {

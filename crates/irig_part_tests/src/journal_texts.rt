@@ -130,6 +130,7 @@ fn is_splice(step: &SavedStep) -> bool {
     step.cursor == 2 && *at == 1 && *count == 0 && put.len() == 1 && put.get(0) == DELETED
 }
 
+/// The letter a is place 0.
 fn is_mark(step: &SavedStep) -> bool {
     let Change::One(Single::SetMark { letter, time }) = &step.change else {
         return false;

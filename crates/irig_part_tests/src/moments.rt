@@ -4,8 +4,7 @@ use irig_codes::{Fields, Format, Kind};
 use irig_moment::Moment;
 use std::process::Abort;
 
-/// A moment, a kind, an expression, the number of a frame from the moment on, from 0, and its
-/// fields.
+/// A moment, a kind, an expression, a frame's number from the moment on, from 0, and its fields.
 type Row = (&'static [u8], Kind, u8, u64, Fields);
 
 /// The fields of day 1 at midnight, with no other part.

@@ -45,6 +45,7 @@ fn is_carried((kind, expression, fields, ones): &Carried) -> bool {
     }
 }
 
+/// Frames of B and A, their ones by the weights of the standard.
 static FIELDS: [Carried; 2] = [
     (
         Kind::B,

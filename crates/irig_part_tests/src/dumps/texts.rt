@@ -15,6 +15,7 @@ fn lines_of(alloc: Global, length: u64, edges: &[u64]) -> Result<Vec<u8>, AllocE
     }
 }
 
+/// A recording of length 0 without a pulse.
 const EMPTY: &[u8] = b"$timescale 1 us $end
 $scope module irig $end
 $var wire 1 ! code $end
@@ -26,8 +27,8 @@ $dumpvars
 $end
 ";
 
-/// A length and edges, and their text from a byte on: byte 104 is after the declarations, byte 125
-/// after the values at time 0 too.
+/// A length and edges, and their text, by hand from the format of dumps, from a byte on: byte 104
+/// is after the declarations, byte 125 after the values at time 0 too.
 static TEXTS: [(u64, &[u64], usize, &[u8]); 3] = [
     (0, &[], 0, EMPTY),
     (

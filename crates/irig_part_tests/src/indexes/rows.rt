@@ -201,7 +201,7 @@ fn is_found(track: &Track, time: u64, count: usize, looks: u64) -> bool {
 fn a_time_is_found_among_the_rises(rt: HostRuntime) {
     let track = sound(rt.alloc(), 200).expect(&rt, "memory");
     for (time, count) in RISES.iter() {
-        // A search makes at most as many looks as the number of pulses has binary digits.
+        // 200 has eight binary digits: a search makes at most as many looks.
         assert!(rt; is_found(&track, *time, *count, 8));
     }
 }
@@ -209,6 +209,6 @@ fn a_time_is_found_among_the_rises(rt: HostRuntime) {
 #[test]
 fn a_time_is_found_among_a_million_rises(rt: HostRuntime) {
     let track = sound(rt.alloc(), 1_000_000).expect(&rt, "memory");
-    // 1,000,000 has twenty binary digits. Pulse 500,000, from 0, rises at 50,000,000.
+    // 1,000,000 has twenty. Pulse 500,000, from 0, rises at 50,000,000.
     assert!(rt; is_found(&track, 50_000_000, 500_001, 20));
 }

@@ -49,6 +49,7 @@ fn has_pulse(track: &Track, index: usize, rise: u64, fall: u64) -> bool {
     index < track.len() && track.pulse(index) == Pulse { rise, fall }
 }
 
+/// One pulse replaces `count` from `at` on, from 0.
 fn splices_one(
     alloc: Global,
     track: &mut Track,

@@ -9,7 +9,7 @@ use irig_folders::{Call, Memory, bytes_of, file_at, is_kept};
 use irig_script::{NoWitness, RunFault, Screen, Status, run};
 use std::alloc::Global;
 
-/// The calls of the first write: make, append, sync the file, rename, sync the folder.
+/// The calls of the first write: those of a new file, as in `in_memory`.
 const FIRST: u64 = 5;
 
 /// The calls of both: the second one also gives the new file the mode of the old one.

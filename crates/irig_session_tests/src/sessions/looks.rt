@@ -68,7 +68,7 @@ static EACH_KIND: [Row; 8] = [
     (Call::Undo, [9, 101, 901], 100_000),
 ];
 
-// The last call does nothing: its contract says that generated frames are read as they were made.
+// The call at the end is the law that generated frames are read as they were made.
 #[test]
 fn each_kind_of_edit_looks_in_its_window(rt: HostRuntime) {
     check(&rt, rt.alloc(), 100_000, &EACH_KIND);
