@@ -1,14 +1,4 @@
-//! The command line, read by `clap`. A `Command` is what `clap` knows of a command line, an `Arg`
-//! is an option or a word of it, and matches are what `clap` found in the words. Only memory can
-//! run out for a `Command` or an `Arg`. `option_arg` makes an option with a value, `flag_arg` one
-//! without, and `needed_arg` a word that has to be there, each by its name and its text in the
-//! help. What is after the last colon of that text is the value without the option. The options are
-//! added in this order: `wires_command`, `part_command`, `frames_command`, `command`.
-//!
-//! In a contract, `IsWiresCommand` and the like say that a command has just the arguments that the
-//! function of that name gives it; `MayRefuse` says that `clap` may give this error for the words,
-//! `WantsMemory` that memory ran out, `AreValues` that these are the values of the matches. An
-//! `Arg` that is `global` would be one of subcommands, too.
+//! The command line, read by `clap`.
 
 ghost use Rattle.std.specs.Prelude.{◌≡◌, IfErr, IfOk, None, false, map, string_bytes};
 ghost use Rattle.clap.specs.Words.{HasMatchesOf, app_of, found_of, rule_of};
@@ -26,9 +16,7 @@ use clap::{Arg, ArgMatches, Command, Error};
 use irig_words::{UsageFault, flag_arg, matches_of, needed_arg, option_arg, windowed};
 use std::alloc::{AllocError, Global};
 
-/// What the words of a command line ask for, the program's name being the first. The error is
-/// `Words` if `clap` does not accept the words, they ask for help, or memory runs out, and `Value`
-/// if an option has a value that it cannot have.
+/// What the words of a command line ask for, the program's name being the first.
 pub fn settings<'a>(
     alloc: Global,
     words: &'a [String],
@@ -45,8 +33,7 @@ pub fn settings<'a>(
     }
 }
 
-/// The values of a command line as text: the words, as `clap` takes them apart. `Err` if `clap`
-/// does not accept them, they ask for help, or memory ran out.
+/// The values of a command line as text: the words, as `clap` takes them apart.
 fn raw_values<'a>(alloc: Global, words: &'a [String]) -> Result<RawValues<'a>, Error>
     ensures values { IfOk result (Values the_command AreValues
         (map string_bytes words.entry.now)) }
@@ -58,8 +45,7 @@ fn raw_values<'a>(alloc: Global, words: &'a [String]) -> Result<RawValues<'a>, E
     }
 }
 
-/// The values of the matches, each as it was written; for an option that is not given, `None`, or
-/// `false` if it has no value. `Err` means that memory ran out.
+/// The values of the matches, each as it was written.
 fn values_of<'a>(matches: &ArgMatches<'a>) -> Result<RawValues<'a>, Error>
     ensures values { IfOk result (AreValues (found_of matches.now)) }
     ensures memory { IfErr result WantsMemory }
@@ -84,8 +70,7 @@ fn values_of<'a>(matches: &ArgMatches<'a>) -> Result<RawValues<'a>, Error>
     })
 }
 
-/// The matches of a command line that `clap` accepts. `Err` if it does not accept the words, they
-/// ask for help, or memory ran out.
+/// The matches of a command line that `clap` accepts.
 fn parse_words<'a>(alloc: Global, words: &'a [String]) -> Result<ArgMatches<'a>, Error>
     ensures parsed { IfOk result (HasMatchesOf the_command (map string_bytes words.entry.now)) }
     ensures refused { IfErr result (MayRefuse the_command (map string_bytes words.entry.now)) }
@@ -93,8 +78,7 @@ fn parse_words<'a>(alloc: Global, words: &'a [String]) -> Result<ArgMatches<'a>,
     matches_of(command(alloc)?, words)
 }
 
-/// The command line of the program: the options of `frames_command`, and the paths of the two
-/// dumps.
+/// The command line of the program.
 pub fn command<'a>(alloc: Global) -> Result<Command<'a>, AllocError>
     ensures { IfOk result (λ c. IsCommand (app_of c)) }
 {
@@ -103,8 +87,7 @@ pub fn command<'a>(alloc: Global) -> Result<Command<'a>, AllocError>
         .arg(needed_arg(alloc, "AFTER", "the dump of the track after"))
 }
 
-/// The command with the options of `part_command`, and those that say how frames are shown in
-/// comments: `--frames`, `--format` and `--expression`.
+/// The options of `part_command`, and those that say how frames are shown in comments.
 fn frames_command<'a>(alloc: Global) -> Result<Command<'a>, AllocError>
     ensures { IfOk result (λ c. IsFramesCommand (app_of c)) }
 {
@@ -118,8 +101,7 @@ fn frames_command<'a>(alloc: Global) -> Result<Command<'a>, AllocError>
         .arg(option_arg(alloc, "expression", "NUMBER", "of the format: 2"))
 }
 
-/// The command with the options of `wires_command`, and those of the window, the part of both dumps
-/// that is read: `--from` and `--to`, which `windowed` adds.
+/// The options of `wires_command`, and those of the window.
 fn part_command<'a>(alloc: Global) -> Result<Command<'a>, AllocError>
     ensures { IfOk result (λ c. IsPartCommand (app_of c)) }
 {
@@ -138,7 +120,7 @@ fn wires_command<'a>(alloc: Global) -> Result<Command<'a>, AllocError>
         .arg(wire_arg(alloc, "wire-after", "the wire of AFTER"))
 }
 
-/// An option `--name` whose value is the name of a wire. `help` says of which dump.
+/// An option `--name` whose value is the name of a wire.
 fn wire_arg<'a>(alloc: Global, name: &'a str, help: &'a str) -> Arg<'a>
     ensures rule { rule_of result ≡ option name.entry.now None }
     ensures local { result.global ≡ false }

@@ -1,14 +1,4 @@
-//! The tracks of two dumps are compared, as the words of a command line ask. The patch is a script
-//! that makes the track after of the track before: it has no byte if they are the same. It is
-//! printed by a block: memory in which its parts wait, and which is taken before the tracks are
-//! read. The ending says whether the two tracks are the same. A window is the part of both that is
-//! read. If memory runs out, that is reported as a fault of a file, `File`; `Dump` is a fault of
-//! the dump in it.
-//!
-//! In a contract, `held` is what each file holds, if that is known, `unread` for which faults a
-//! file is not read, and `contents` what came to an output. `EndsBy`, `Obeys`, `PrintsIfRoom` and
-//! `PrintsText` say what was done: for the words, for the settings, for two recordings, and for the
-//! text of a patch.
+//! The tracks of two dumps are compared, as the words of a command line ask.
 
 ghost use Rattle.std.specs.Prelude.{◌≡◌, map, option_map, string_bytes};
 ghost use Rattle.irig_diff.specs.Patches.{PrintsIfRoom, PrintsText, text_between};
@@ -29,9 +19,7 @@ use irig_text::new_block;
 use std::alloc::Global;
 use std::io::Write;
 
-/// Prints the patch between the tracks of the dumps that the words of a command line name, the
-/// program's name being the first. `Usage` if `settings` finds a mistake in the words, they ask for
-/// help, or memory runs out for them; else the ending is that of `compare_files`.
+/// Compares the dumps that the words name; the first word is the program's name.
 pub fn compare_words<'a, D: Disk, W: Write>(
     alloc: Global,
     words: &'a [String],
@@ -47,9 +35,7 @@ pub fn compare_words<'a, D: Disk, W: Write>(
     }
 }
 
-/// Prints the patch between the tracks of the settings. The memory for its block is taken before
-/// they are read; if there is none, the track before is reported as not read (`Unread`). Else the
-/// ending is that of `compare_with_block`.
+/// Takes the memory of the block before the tracks are read.
 fn compare_files<'a, D: Disk, W: Write>(
     alloc: Global,
     chosen: &Settings<'a>,
@@ -65,10 +51,7 @@ fn compare_files<'a, D: Disk, W: Write>(
     compare_with_block(alloc, chosen, disk, out, &mut block)
 }
 
-/// Prints the patch between the tracks of the settings, by this block: both are read in the same
-/// window, the track before first. `Unread` with the path of the first track that cannot be read;
-/// nothing is printed then. Else the ending is that of `compare_recordings`, which can be `Unread`,
-/// too.
+/// Reads both tracks in the same window, the one before first, and prints their patch.
 fn compare_with_block<'a, D: Disk, W: Write>(
     alloc: Global,
     chosen: &Settings<'a>,
@@ -90,11 +73,7 @@ fn compare_with_block<'a, D: Disk, W: Write>(
     compare_recordings(alloc, chosen, before, after, out, block)
 }
 
-/// Prints the patch between two recordings, with comments if frames are asked for
-/// (`compare_with_frames`), else without (`print_patch`). `Compared` says whether the two are the
-/// same. `Unprinted` if the output fails or memory runs out for the block: a front of the patch may
-/// be printed then. `Unread` if memory runs out for the frames: nothing is printed then. Of the
-/// settings it uses the format, and the paths for `Unread`.
+/// Prints the patch between two recordings, with comments if frames are asked for.
 fn compare_recordings<'a, W: Write>(
     alloc: Global,
     chosen: &Settings<'a>,
@@ -112,9 +91,7 @@ fn compare_recordings<'a, W: Write>(
     }
 }
 
-/// Prints the patch between two recordings with comments that show their frames in this format. The
-/// frames of both are found first: if memory runs out for those of one, that track is reported as
-/// not read (`Unread`), and nothing is printed. Else the ending is that of `print_commented_patch`.
+/// Finds the frames of both before anything is printed.
 fn compare_with_frames<'a, W: Write>(
     alloc: Global,
     chosen: &Settings<'a>,
@@ -136,9 +113,7 @@ fn compare_with_frames<'a, W: Write>(
     print_commented_patch(&before, &after, out, block)
 }
 
-/// Prints the patch with comments between two recordings, whose frames are found and have the same
-/// format. It has no byte exactly if the recordings are the same: the ending is `Compared(true)`
-/// then, else `Compared(false)`. `Unprinted` if the output fails, or memory runs out for the block.
+/// Prints the patch with comments between two recordings, whose frames have one format.
 fn print_commented_patch<'a, W: Write>(
     before: &Framed,
     after: &Framed,
@@ -155,9 +130,7 @@ fn print_commented_patch<'a, W: Write>(
     }
 }
 
-/// Prints the patch without comments between two recordings. It has no byte exactly if they are the
-/// same: the ending is `Compared(true)` then, else `Compared(false)`. `Unprinted` if the output
-/// fails, or memory runs out for the block.
+/// Prints the patch without comments between two recordings.
 fn print_patch<'a, W: Write>(
     before: &Recording,
     after: &Recording,

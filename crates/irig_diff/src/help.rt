@@ -5,8 +5,7 @@ ghost use Rattle.irig_diff.specs.Help.{help_text};
 
 use irig_words::Program;
 
-/// What the program says of itself: its name, its help, and its status and words if help cannot be
-/// printed.
+/// What the program says of itself; its status and words if the help cannot be printed.
 pub fn program<'a>() -> Program<'a>
     ensures help { result.help.now ≡ help_text }
     ensures status { result.status ≡ 2 }

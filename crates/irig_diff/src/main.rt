@@ -1,10 +1,5 @@
 //! What differs between two recorded time tracks, before and after, as a script that makes the one
-//! after of the one before: the patch. The status is the number with which the program ends: 0 if
-//! the tracks are the same, 1 if they differ, and 2 for any fault, as a mistake in the command
-//! line, a track that was not read, or an output that failed. Help that was asked for ends with 0,
-//! or with 2 if it cannot be printed. In a contract, `held` is what each file holds, if that is
-//! known, `unread` for which faults a file is not read, and `contents` what came to an output;
-//! `Serves` says that the words were obeyed, and what the output of help and the status are then.
+//! after of the one before: the patch.
 #![tactic(auto)]
 
 mod chosen;
@@ -32,9 +27,7 @@ use std::rt::Runtime;
 use std::{env, io};
 
 // Gets the files of the system and the words of the command line, and compares the tracks as
-// `start` does, which gives the status. `system_files` of irig_files takes the memory for the paths
-// of files, and fails only if there is none: that is printed on the standard error, with status 2.
-// If the words cannot be had, `tell_no_words` prints why, with status 2, too.
+// `start` does, which gives the status.
 fn main(rt: HostRuntime) -> ExitCode {
     let Ok(files) = system_files(&rt) else {
         return program().tell(&rt, 2, &io::Error::from(io::ErrorKind::OutOfMemory));
@@ -53,16 +46,13 @@ fn main(rt: HostRuntime) -> ExitCode {
     }
 }
 
-/// The words of the command line, the program's name being the first. `Err` if one of them is not
-/// UTF-8, the system gives none, or memory runs out.
+/// The words of the command line, the program's name being the first.
 fn arguments<R: Runtime + AllocGlobal>(rt: &R) -> io::Result<Vec<String>> {
     let words = env::args(rt)?.collect(rt.alloc())?;
     Ok(words)
 }
 
-/// Compares the tracks that the words name, by the files of this system (`disk`), prints the patch
-/// on `out`, and reports how that ended: the answer is the exit status, 0, 1 or 2 as the head of
-/// this file says. `help` is the output for the help.
+/// Compares the tracks that the words name. The answer is the exit status.
 fn start<P: Eprint + AllocGlobal, C: FileSystem, W: Write, H: Write>(
     rt: &P,
     words: &[String],
@@ -70,8 +60,6 @@ fn start<P: Eprint + AllocGlobal, C: FileSystem, W: Write, H: Write>(
     out: &mut W,
     help: &mut H,
 ) -> ExitCode
-    // The words were obeyed. The output of help has the help if it was asked for, and else nothing:
-    // `rt` prints on the standard error alone, and the patch goes to `out`.
     ensures { Serves (map string_bytes words.now) (C.held disk.now.system)
         (C.unread disk.now.system) (W.contents out.old) (W.contents out.new)
         (H.contents help.old) (H.contents help.new) (exit_status result) }

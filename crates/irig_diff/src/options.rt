@@ -1,7 +1,4 @@
-//! What the values of a command line mean. `raw` has them as text, as they are written. The window
-//! is the part of both dumps that is read, between the times of `--from` and `--to`. In a contract,
-//! `IsChosen` says that the settings are what the values mean, `AreFrames` that the format of the
-//! frames is, `HasFault` that this option has a value that it cannot have.
+//! What the values of a command line mean.
 
 ghost use Rattle.std.specs.Prelude.{◌≡◌, IfErr, IfOk};
 ghost use Rattle.irig_diff.specs.Chosen.{AreFrames, HasFault, IsChosen, names_format};
@@ -11,9 +8,7 @@ use crate::raw_values::RawValues;
 use irig_codes::Format;
 use irig_words::{format_named, window_named};
 
-/// What the values of a command line ask for. The error is the first of these faults: `Window` if a
-/// time of the window is wrong, or it ends before it begins; `Format` if `--format` or
-/// `--expression` is wrong; `Alone` if one of these two is given without `--frames`.
+/// What the values of a command line ask for.
 pub fn settings_of<'a>(raw: &RawValues<'a>) -> Result<Settings<'a>, OptionFault>
     ensures chosen { IfOk result (IsChosen raw.now) }
     ensures fault { IfErr result (HasFault raw.now) }
@@ -35,9 +30,7 @@ pub fn settings_of<'a>(raw: &RawValues<'a>) -> Result<Settings<'a>, OptionFault>
     }
 }
 
-/// The format of the frames that are shown; `None` if they are not asked for (`--frames`). The
-/// error is `Format` if `--format` or `--expression` is wrong, and `Alone` if one of them is given
-/// without `--frames`.
+/// The format of the frames that are shown; `None` if they are not asked for.
 fn frames_of(raw: &RawValues<'_>) -> Result<Option<Format>, OptionFault>
     ensures frames { IfOk result (AreFrames raw.now) }
     ensures fault { IfErr result (HasFault raw.now) }

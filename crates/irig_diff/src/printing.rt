@@ -1,7 +1,4 @@
-//! A text is printed block by block. It gives its bytes in parts (`Text`); a block is memory for at
-//! least 64 KiB, in which parts wait until they are written. In a contract, `T.rest` is the bytes
-//! of a text that are still to come, `Appends` says that these bytes came to an output,
-//! `AppendsFront` that a front of them did, maybe none.
+//! A text is printed block by block.
 
 ghost use Rattle.std.specs.Prelude.{◌≡◌, ◌≤◌, ◌↔◌, ◌+◌, ◌++◌, ℕ, List, [], false, true, length};
 ghost use Rattle.std.specs.Prelude.{IfOk, OnOk, OnErr};
@@ -13,9 +10,7 @@ use irig_print::{PrintFault, put_all};
 use irig_text::{ENOUGH, Text};
 use std::io::Write;
 
-/// Prints a text, block by block. Its parts wait in the block until they are written, and what the
-/// block holds before is lost. Returns whether the text has no byte. An error is that the output
-/// failed, or that memory ran out for the block; a front of the text may be printed then.
+/// Prints a text, block by block.
 pub fn print<W: Write, T: Text>(
     out: &mut W,
     text: &mut T,
@@ -39,8 +34,7 @@ pub fn print<W: Write, T: Text>(
 }
 
 /// Prints the next block of a text, and sets `empty` to false if the block has a byte. Returns
-/// whether it was the last one. A block has 64 KiB (`ENOUGH`) or more, but for the last. If memory
-/// runs out for it, the error is the same as if the output fails: `PrintFault`.
+/// whether it was the last one.
 fn print_next<W: Write, T: Text>(
     out: &mut W,
     text: &mut T,

@@ -1,12 +1,9 @@
-//! The values of a command line as text, before it is tested what they mean. `Settings` (`chosen`)
-//! has their meanings.
+//! The values of a command line as text, before it is tested what they mean.
 
 /// The values of a command line, as they are written; `None` for an option that is not given.
 #[derive(Clone, Copy)]
 pub struct RawValues<'a> {
-    /// The path of the dump before.
     pub before: &'a str,
-    /// The path of the dump after.
     pub after: &'a str,
     /// The values of the options of the same names; `wire` is that of the dump before.
     pub wire: Option<&'a str>,
@@ -15,6 +12,5 @@ pub struct RawValues<'a> {
     pub to: Option<&'a str>,
     pub format: Option<&'a str>,
     pub expression: Option<&'a str>,
-    /// Whether `--frames` is given.
     pub frames: bool,
 }

@@ -1,16 +1,4 @@
-//! A script run on the file of a dump, as the words of a command line ask. Here the dump is read;
-//! `script_run` has the run on what was read. A window is the part of the dump that is read, if not
-//! all is. The room is the memory that writes use: it is taken before the dump is read, so no write
-//! runs out of memory. `disk` is the files by their paths, `chosen` the settings. The screen is the
-//! output for answers.
-//!
-//! In a contract, `files` is what is known of the disk before and after, `ends` what is known of
-//! the screen, the script and the writes. Of a disk, `held` is what each file holds, if that is
-//! known, `unread` for which faults a file is not read, and `is_barred` says which files must not
-//! be written; `is_told` says whether the contracts know the folders: true of folders in memory,
-//! false of the system. `EndsBy` and `Obeys` say what was done: for the words, and for the
-//! settings. `IsApart` says that there is no window, or that the path to write does not lead to the
-//! dump.
+//! A script run on the file of a dump, as the words of a command line ask.
 
 ghost use Rattle.std.specs.Prelude.{◌≡◌, IfErr, IfOk, IsTrue, false, is_some, map, string_bytes};
 ghost use Rattle.std.specs.Prelude.{true};
@@ -27,9 +15,7 @@ use irig_text::ShelfFault;
 use std::alloc::Global;
 use std::io::{Read, Write};
 
-/// Runs a script on the dump that the words of a command line name, the program's name being the
-/// first, and returns how that ended. `Usage` if `settings` finds a mistake in the words, they ask
-/// for help, or memory runs out for them; else the ending is that of `run_if_apart`.
+/// Runs a script on the dump that the words name; the first word is the program's name.
 pub fn obey_words<'a, D: Disk, R: Read, W: Write, N: Witness>(
     alloc: Global,
     words: &'a [String],
@@ -49,9 +35,7 @@ pub fn obey_words<'a, D: Disk, R: Read, W: Write, N: Witness>(
     }
 }
 
-/// Runs a script on the dump of the settings, if no part of it would replace the whole. `Over` if a
-/// window would be written to the dump, and `Unknown` if that cannot be found out: the dump and the
-/// script are not read then. Else the ending is that of `run_on_track`.
+/// Runs a script on the dump of the settings, if no part of it would replace the whole.
 fn run_if_apart<'a, D: Disk, R: Read, W: Write, N: Witness>(
     alloc: Global,
     chosen: &Settings<'a>,
@@ -73,8 +57,7 @@ fn run_if_apart<'a, D: Disk, R: Read, W: Write, N: Witness>(
 }
 
 /// Whether there is a window, and the path to write leads to the dump. Without a window the answer
-/// is false, also if the path leads there: the whole may replace the whole. `Err`: there is a
-/// window, and the system does not say where one of the paths leads.
+/// is false, also if the path leads there: the whole may replace the whole.
 fn is_over<D: Disk>(chosen: &Settings<'_>, disk: &D) -> Result<bool, ShelfFault>
     ensures apart { IsTrue D.is_told → IfOk result (λ over. over ≡ false
         → IsApart chosen.now (D.disk disk.now)) }
@@ -89,10 +72,7 @@ fn is_over<D: Disk>(chosen: &Settings<'_>, disk: &D) -> Result<bool, ShelfFault>
     }
 }
 
-/// Runs a script on the dump of the settings, after `is_over` has found that no window would be
-/// written to the dump. The memory of its writes is taken before the dump is read; if there is
-/// none, that is reported as a fault of the file, `Unread`. Else the ending is that of
-/// `run_with_room`.
+/// Takes the memory of all writes before the dump is read.
 fn run_on_track<'a, D: Disk, R: Read, W: Write, N: Witness>(
     alloc: Global,
     chosen: &Settings<'a>,
@@ -113,9 +93,7 @@ fn run_on_track<'a, D: Disk, R: Read, W: Write, N: Witness>(
     run_with_room(alloc, chosen, &mut room, disk, script, screen)
 }
 
-/// Reads the dump of the settings, and runs a script on it. Each write uses the room. `Unread` if
-/// the file could not be read, is too long, or memory ran out for it; else the ending is that of
-/// `run_on_read`, also if the dump in the file is no recording.
+/// Reads the dump of the settings, and runs a script on it.
 fn run_with_room<'a, D: Disk, R: Read, W: Write, N: Witness>(
     alloc: Global,
     chosen: &Settings<'a>,

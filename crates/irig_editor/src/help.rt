@@ -5,9 +5,7 @@ ghost use Rattle.irig_editor.specs.Help.{help_text};
 
 use irig_words::Program;
 
-/// What the program says of itself: its name, its help, and the status and words with which it ends
-/// if the help cannot be printed. The words are those of a run whose answers cannot be printed,
-/// `S6`.
+/// What the program says of itself; its status and words if the help cannot be printed.
 pub fn program<'a>() -> Program<'a>
     ensures help { result.help.now ≡ help_text }
     ensures status { result.status ≡ 4 }

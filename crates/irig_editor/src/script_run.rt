@@ -1,15 +1,4 @@
-//! A script run on what was read of a dump: the recording of a wire and the text of the journal, if
-//! there is one (`Parts`), or the fault of the dump (`VcdFault`). A dump with a journal is a saved
-//! session. A window is the part of the dump that is read, if not all is. Each write uses the room.
-//! `disk` is the files by their paths, `chosen` the settings. The screen is the output for answers.
-//!
-//! In a contract, `files` is what is known of the disk before and after, `ends` what is known of
-//! the screen, the script and the writes. `held`, `unread`, `is_barred` and `is_told` are as in
-//! `file_run`: what files hold, why they are not read, which must not be written, and whether the
-//! contracts know the folders. `source` is the bytes of the dump, and what was read is what they
-//! say (`Gives`). `few` (`HasBytes`) says that a journal has no more bytes than a dump may have;
-//! `apart` (`IsApart`), that there is no window, or that the path to write does not lead to the
-//! dump. `Obeys` and `RunsBy` say what was done: for the settings, and on the bytes of the dump.
+//! A script run on what was read of a dump.
 
 ghost use Rattle.std.specs.Prelude.{◌≡◌, ◌&&◌, ◌≤◌, ◌^◌, ℕ, List, IfSome, IsTrue, Ok, false};
 ghost use Rattle.std.specs.Prelude.{is_some, length};
@@ -28,9 +17,7 @@ use irig_vcd::{VcdFault, Window, read_back_parts};
 use std::alloc::Global;
 use std::io::{Read, Write};
 
-/// Runs a script on what was read of a dump. `Saved` if a window of a saved session was read: the
-/// script is not read then. Else `Ran`, with whether all lines were accepted, or with a fault:
-/// `Dump` if the dump is no recording, or the fault of `run_on_recording`.
+/// Runs a script on what was read of a dump.
 pub fn run_on_read<'a, D: Disk, R: Read, W: Write, N: Witness>(
     alloc: Global,
     chosen: &Settings<'a>,
@@ -64,19 +51,14 @@ pub fn run_on_read<'a, D: Disk, R: Read, W: Write, N: Witness>(
     Ending::Ran(chosen.track, result)
 }
 
-/// Whether a part of a saved session was read: there is a window, and the dump has a journal. Such
-/// a session opens only as a whole, since a step of its journal can reach over an end of the
-/// window.
+/// Whether a part of a saved session was read, of which a step can reach over an end of the window.
 fn is_of_session(window: Option<Window>, journal: &Option<Vec<u8>>) -> bool
     ensures { result ≡ (is_some window && is_some journal.now) }
 {
     window.is_some() && journal.is_some()
 }
 
-/// Runs a script on a recording and the text of its journal, by the format of the settings. Writes
-/// go to the shelf, which is here the file at the path of the settings. `Ok` says whether all lines
-/// were accepted. `Dump` if no session can be made of the recording and the journal, also because
-/// memory ran out, `Run` if the run was broken off.
+/// Runs a script on a recording and the text of its journal, by the format of the settings.
 fn run_on_recording<D: Disk, R: Read, W: Write, N: Witness>(
     alloc: Global,
     chosen: &Settings<'_>,
@@ -99,8 +81,7 @@ fn run_on_recording<D: Disk, R: Read, W: Write, N: Witness>(
         (ends screen.old (writes_on D.is_told (D.disk disk.old)) (R.remaining script.old))
         (ends screen.new (writes_on D.is_told (D.disk disk.new)) (R.remaining script.new)) result }
 {
-    // Does nothing. It is called for its contract: a dump that is written of a recording says the
-    // recording. `RunsBy` says of a window that the script ran on such a dump.
+    // Called for its contract: a dump that is written of a recording says the recording.
     read_back_parts(&recording);
     let mut shelf = FileShelf::new(disk, chosen.out, room);
     run_on_parts(

@@ -1,10 +1,4 @@
-//! The statuses of the program as a process, and what it says of faults. 0 is that no line was
-//! refused, 1 that some line was, 2 a mistake in the command line, 3 a dump that cannot be used,
-//! and 4 that the run was broken off, or that the system does not say where a path leads. `tell`
-//! and `tell_of` print a fault on the standard error, the latter with a path, and return the status
-//! that they get. `explain` prints the help with status 0, or with 2 what is wrong with the words;
-//! the status is 4 if the help cannot be printed. In a contract, `contents` is what came to an
-//! output, and `Reports` says what the output of help and the status are for an ending.
+//! The statuses of the program as a process, and what it says of faults.
 
 ghost use Rattle.std.specs.Prelude.{◌≡◌};
 ghost use Rattle.std.specs.Process.{exit_status};
@@ -17,8 +11,7 @@ use irig_script::{DumpRunFault, Status};
 use std::io::Write;
 use std::process::ExitCode;
 
-/// The status of the process for how the program ended. A fault is printed on the standard error,
-/// and help that was asked for on its output, `help`.
+/// The status of the process for how the program ended.
 pub fn report<R: Eprint, H: Write>(rt: &R, ending: &Ending<'_>, help: &mut H) -> ExitCode
     ensures { Reports ending.now (H.contents help.old) (H.contents help.new) (exit_status result) }
 {
@@ -32,8 +25,7 @@ pub fn report<R: Eprint, H: Write>(rt: &R, ending: &Ending<'_>, help: &mut H) ->
     }
 }
 
-/// What the program says of a track that it did not read, after the path. Out of memory has the
-/// number `V14`, which it has as a fault of a dump, too.
+/// What the program says of a track that it did not read, after the path.
 fn unread_text<'a>(fault: DumpFileFault) -> &'a str
     ensures { result.now ≡ unread_text fault }
 {
@@ -44,9 +36,7 @@ fn unread_text<'a>(fault: DumpFileFault) -> &'a str
     }
 }
 
-/// The exit status for how a run on the dump at this path ended: 0 if all lines were accepted, 1 if
-/// some were refused, 3 if the dump is no recording (`Dump`), 4 if the run was broken off (`Run`).
-/// A fault is printed on the standard error.
+/// The exit status for how a run on the dump at this path ended.
 fn tell_ended<R: Eprint>(rt: &R, path: &str, outcome: Result<Status, DumpRunFault>) -> ExitCode
     ensures { exit_status result ≡ status_number outcome }
 {

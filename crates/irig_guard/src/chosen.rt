@@ -1,5 +1,4 @@
-//! What a command line asks for: what the values of its options mean (`Settings`), or which value
-//! is wrong (`OptionFault`). The values as text are `RawValues`.
+//! What a command line asks for, or which value is wrong.
 
 use irig_codes::Format;
 use irig_vcd::Window;
@@ -9,11 +8,8 @@ use thiserror::Error;
 /// What a command line asks for.
 #[derive(Drop)]
 pub struct Settings<'a> {
-    /// The path of the dump.
     pub track: &'a str,
-    /// The name of the wire in the dump, if one is given.
     pub wire: Option<&'a str>,
-    /// The window of the dump that is read, if not all is.
     pub window: Option<Window>,
     /// The paths of other recordings of the same code (`--with`), in their order.
     pub others: Vec<&'a str>,
@@ -30,10 +26,8 @@ pub struct Settings<'a> {
 /// An option with a value that it cannot have.
 #[derive(Clone, Copy, Debug, Error)]
 pub enum OptionFault {
-    /// An option of the window has it.
     #[error(transparent)]
     Window(WindowFault),
-    /// An option of the format has it.
     #[error(transparent)]
     Format(FormatFault),
     /// The track is to be written over.

@@ -1,13 +1,4 @@
-//! The command line, read by `clap`. A `Command` is what `clap` knows of a command line, an `Arg`
-//! is an option or a word of it, and matches are what `clap` found in the words. Only memory can
-//! run out for a `Command` or an `Arg`. `option_arg` makes an option with a value, `flag_arg` one
-//! without, and `needed_arg` a word that has to be there, each by its name and its text in the
-//! help. What is after the last colon of that text is the value without the option. The options are
-//! added in this order: `part_command`, `format_command`, `judging_command`, `command`.
-//!
-//! In a contract, `IsPartCommand` and the like say that a command has just the arguments that the
-//! function of that name gives it; `MayRefuse` says that `clap` may give this error for the words,
-//! `WantsMemory` that memory ran out, `AreValues` that these are the values of the matches.
+//! The command line, read by `clap`.
 
 ghost use Rattle.std.specs.Prelude.{◌≡◌, IfErr, IfOk, None, codes, false, map, string_bytes};
 ghost use Rattle.clap.specs.Words.{HasMatchesOf, app_of, found_of, rule_of};
@@ -24,9 +15,7 @@ use clap::{Arg, ArgAction, ArgMatches, Command, Error};
 use irig_words::{UsageFault, flag_arg, matches_of, needed_arg, option_arg, windowed};
 use std::alloc::{AllocError, Global};
 
-/// What the words of a command line ask for, the program's name being the first. The error is
-/// `Words` if `clap` does not accept the words, they ask for help, or memory runs out, and `Value`
-/// if an option has a value that it cannot have.
+/// What the words of a command line ask for, the program's name being the first.
 pub fn settings<'a>(
     alloc: Global,
     words: &'a [String],
@@ -43,8 +32,7 @@ pub fn settings<'a>(
     }
 }
 
-/// The values of a command line as text: the words, as `clap` takes them apart. `Err` if `clap`
-/// does not accept them, they ask for help, or memory ran out.
+/// The values of a command line as text: the words, as `clap` takes them apart.
 fn raw_values<'a>(alloc: Global, words: &'a [String]) -> Result<RawValues<'a>, Error>
     ensures values { IfOk result (Values the_command AreValues
         (map string_bytes words.entry.now)) }
@@ -56,8 +44,7 @@ fn raw_values<'a>(alloc: Global, words: &'a [String]) -> Result<RawValues<'a>, E
     }
 }
 
-/// The values of the matches, each as it was written; for an option that is not given, `None`, or
-/// `false` if it has no value. `Err` means that memory ran out.
+/// The values of the matches, each as it was written.
 fn values_of<'a>(alloc: Global, matches: &ArgMatches<'a>) -> Result<RawValues<'a>, Error>
     ensures values { IfOk result (AreValues (found_of matches.now)) }
     ensures memory { IfErr result WantsMemory }
@@ -81,8 +68,7 @@ fn values_of<'a>(alloc: Global, matches: &ArgMatches<'a>) -> Result<RawValues<'a
     })
 }
 
-/// The values of `--with`, in their order; an empty list if the option is not given. `Err` means
-/// that memory ran out.
+/// The values of `--with`, in their order; an empty list if the option is not given.
 fn others_of<'a>(alloc: Global, matches: &ArgMatches<'a>) -> Result<Vec<&'a str>, AllocError>
     ensures { IfOk result (λ others. paths others.items
         ≡ all_values (found_of matches.now) (codes "with")) }
@@ -94,8 +80,7 @@ fn others_of<'a>(alloc: Global, matches: &ArgMatches<'a>) -> Result<Vec<&'a str>
     Ok(others)
 }
 
-/// The matches of a command line that `clap` accepts. `Err` if it does not accept the words, they
-/// ask for help, or memory ran out.
+/// The matches of a command line that `clap` accepts.
 fn parse_words<'a>(alloc: Global, words: &'a [String]) -> Result<ArgMatches<'a>, Error>
     ensures parsed { IfOk result (HasMatchesOf the_command (map string_bytes words.entry.now)) }
     ensures refused { IfErr result (MayRefuse the_command (map string_bytes words.entry.now)) }
@@ -103,8 +88,7 @@ fn parse_words<'a>(alloc: Global, words: &'a [String]) -> Result<ArgMatches<'a>,
     matches_of(command(alloc)?, words)
 }
 
-/// The command line of the program: the options of `judging_command`, those of what is written
-/// (`--out` and `--save`), and the path of the track.
+/// The command line of the program.
 pub fn command<'a>(alloc: Global) -> Result<Command<'a>, AllocError>
     ensures { IfOk result (λ c. IsCommand (app_of c)) }
 {
@@ -114,8 +98,7 @@ pub fn command<'a>(alloc: Global) -> Result<Command<'a>, AllocError>
         .arg(needed_arg(alloc, "TRACK", "the dump; repairs come on standard input"))
 }
 
-/// The command with the options of `format_command`, and those that say by what repairs are judged
-/// besides the recording: whether frames may move (`--moved`), and other recordings (`--with`).
+/// The options of `format_command`, and those by what repairs are judged besides the recording.
 fn judging_command<'a>(alloc: Global) -> Result<Command<'a>, AllocError>
     ensures { IfOk result (λ c. IsJudgingCommand (app_of c)) }
 {
@@ -128,8 +111,7 @@ fn judging_command<'a>(alloc: Global) -> Result<Command<'a>, AllocError>
         .arg(with_arg(alloc))
 }
 
-/// The command with the options of `part_command`, and those of the format of frames: `--format`
-/// and `--expression`.
+/// The options of `part_command`, and those of the format of frames.
 fn format_command<'a>(alloc: Global) -> Result<Command<'a>, AllocError>
     ensures { IfOk result (λ c. IsFormatCommand (app_of c)) }
 {
@@ -138,8 +120,7 @@ fn format_command<'a>(alloc: Global) -> Result<Command<'a>, AllocError>
         .arg(option_arg(alloc, "expression", "NUMBER", "of the format: 2"))
 }
 
-/// The command with the options that say which part of the dump is read: its wire (`--wire`), and
-/// the window (`--from` and `--to`), which `windowed` adds.
+/// The options that say which part of the dump is read.
 fn part_command<'a>(alloc: Global) -> Result<Command<'a>, AllocError>
     ensures { IfOk result (λ c. IsPartCommand (app_of c)) }
 {
@@ -150,9 +131,7 @@ fn part_command<'a>(alloc: Global) -> Result<Command<'a>, AllocError>
     windowed(alloc, wired)
 }
 
-/// The option `--with` for another recording of the same code, which can come more than once. In
-/// the contract `beside` is what `clap` accepts for it. It is not `global`: it is no option of
-/// subcommands, of which there are none.
+/// The option `--with`, which can come more than once.
 fn with_arg<'a>(alloc: Global) -> Arg<'a>
     ensures rule { rule_of result ≡ beside }
     ensures local { result.global ≡ false }

@@ -9,7 +9,6 @@ use irig_words::UsageFault;
 /// How the program ends, before it is reported.
 #[derive(Drop)]
 pub enum Ending<'a> {
-    /// The words of the command line ask for help, or are not valid, or memory ran out for them.
     Usage(UsageFault<OptionFault>),
     /// The file at this path is no dump that can be read.
     Unread(&'a str, DumpFileFault),
@@ -21,7 +20,6 @@ pub enum Ending<'a> {
     OverOther(&'a str),
     /// The other recording at this path cannot be used.
     UnusableOther(&'a str, OtherFault),
-    /// The script ran under guard on the dump at this path, and this is how the run ended. If the
-    /// dump is no recording, that is its fault `Dump`, and no line of the script was read.
+    /// The script ran under guard on the dump at this path, and this is how the run ended.
     Ran(&'a str, Result<Kept, GuardFault>),
 }

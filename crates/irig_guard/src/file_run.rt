@@ -1,15 +1,4 @@
-//! A script run under guard on the file of a dump, as the words of a command line ask. Here the
-//! dump is read; `script_run` has the run on what was read. The room is the memory that writes use:
-//! it is taken before the dump is read, so no write runs out of memory. `disk` is the files by
-//! their paths, `chosen` the settings, `script` the input with the repairs, and `out` the output
-//! for the accepted script: the repairs that were kept, and the others as comments.
-//!
-//! In a contract, `files` is what is known of the disk before and after, `ends` what is known of
-//! the output, the writes and the script. Of a disk, `held` is what each file holds, if that is
-//! known, `unread` for which faults a file is not read, and `is_barred` says which files must not
-//! be written; `is_told` says whether the contracts know the folders: true of folders in memory,
-//! false of the system. `EndsBy` and `Obeys` say what was done: for the words, and for the
-//! settings. `AreSpared` says that a crash at any moment leaves each dump that is read as it was.
+//! A script run under guard on the file of a dump, as the words of a command line ask.
 
 ghost use Rattle.std.specs.Prelude.{map, string_bytes};
 ghost use Rattle.irig_guard.specs.Ending.{EndsBy, Obeys};
@@ -24,9 +13,7 @@ use irig_files::{Disk, DumpFileFault, Room, read_in_window};
 use std::alloc::Global;
 use std::io::{Read, Write};
 
-/// Runs a script under guard on the dump that the words of a command line name, the program's name
-/// being the first, and returns how that ended. `Usage` if `settings` finds a mistake in the words,
-/// they ask for help, or memory runs out for them; else the ending is that of `run_on_track`.
+/// Runs a script under guard on the dump that the words name; the first word is the program's name.
 pub fn obey_words<'a, D: Disk, R: Read, W: Write>(
     alloc: Global,
     words: &'a [String],
@@ -47,9 +34,7 @@ pub fn obey_words<'a, D: Disk, R: Read, W: Write>(
     }
 }
 
-/// Runs a script under guard on the dump of the settings. The memory of its writes is taken before
-/// the dump is read; if there is none, that is reported as a fault of the file, `Unread`. Else the
-/// ending is that of `run_with_room`.
+/// Takes the memory of all writes before the dump is read.
 fn run_on_track<'a, D: Disk, R: Read, W: Write>(
     alloc: Global,
     chosen: &Settings<'a>,
@@ -70,11 +55,7 @@ fn run_on_track<'a, D: Disk, R: Read, W: Write>(
     run_with_room(alloc, chosen, &mut room, disk, script, out)
 }
 
-/// Reads the dump of the settings, and runs a script under guard on it: each repair is tried, and
-/// undone if it is not safe. Each write uses the room. `Unread` if the file could not be read, is
-/// too long, or memory ran out for it. Else the ending is that of `run_if_apart`, which first tests
-/// that the path to write leads to no file that is read; also if the dump in the file is no
-/// recording.
+/// Reads the dump of the settings, and runs a script under guard on it.
 fn run_with_room<'a, D: Disk, R: Read, W: Write>(
     alloc: Global,
     chosen: &Settings<'a>,

@@ -1,6 +1,4 @@
-//! What the values of a command line mean. `raw` has them as text, as they are written. In a
-//! contract, `IsChosen` says that the settings are what the values mean, `HasFault` that this
-//! option has a value that it cannot have, `is_out_track` that `--out` is written as the track is.
+//! What the values of a command line mean.
 
 ghost use Rattle.std.specs.Prelude.{◌≡◌, ◌↔◌, IfErr, IfOk, IsTrue};
 ghost use Rattle.irig_guard.specs.Chosen.{HasFault, IsChosen, is_out_track};
@@ -9,10 +7,7 @@ use crate::chosen::{OptionFault, Settings};
 use crate::raw_values::RawValues;
 use irig_words::{format_named, window_named};
 
-/// What the values of a command line ask for. The error is the first of these faults: `Window` if a
-/// time of the window is wrong, or it ends before it begins; `Format` if `--format` or
-/// `--expression` is wrong; `Out` if the path of `--out` is the text of the track's path; `Save` if
-/// `--save` is given without `--out`.
+/// What the values of a command line ask for.
 pub fn settings_of<'a>(raw: RawValues<'a>) -> Result<Settings<'a>, OptionFault>
     ensures chosen { IfOk result (IsChosen raw.entry) }
     ensures fault { IfErr result (HasFault raw.entry) }
@@ -43,9 +38,7 @@ pub fn settings_of<'a>(raw: RawValues<'a>) -> Result<Settings<'a>, OptionFault>
     })
 }
 
-/// Whether the path of `--out` and that of the track are the same text; false if no `--out` is
-/// given. Whether two paths of other texts lead to one file is found out later, from the disk
-/// (`is_over` of `written`).
+/// Whether `--out` is written as the track is; other names of one file are found out later.
 fn is_out_track(raw: &RawValues<'_>) -> bool
     ensures { result ≡ is_out_track raw.now }
 {

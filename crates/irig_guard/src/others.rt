@@ -1,13 +1,4 @@
-//! The other recordings that the settings name. A frame of one says something of the track if a
-//! frame next to it agrees with it, so that damage did not make it alone: the two are near enough
-//! for their distance to say how many frame periods it is, and their times are as many apart. A
-//! dump that is read has two faults: the outer one is of its file, the inner one of the dump in it.
-//!
-//! In a contract, `IsOther` says that a path is one of `--with`, `Shows` and `Adds` that `terms`
-//! grew by just the frames of a recording that say something, `IsUnusable` that a recording cannot
-//! be used for this fault, `HasFewBytes` that its journal has at most 2^28 bytes, as a dump. `held`
-//! is what a file holds, `unread` why it is not read, and `is_told` whether the contracts know
-//! where paths lead: true of folders in memory, false of the system.
+//! The other recordings that the settings name.
 
 ghost use Rattle.std.specs.Prelude.{◌≡◌, ◌<◌, ◌^◌, ℕ, List, None, IfErr, IfOk, IfSome, IsTrue, OnOk};
 ghost use Rattle.std.specs.Prelude.{false, is_some, true};
@@ -30,10 +21,7 @@ use irig_text::ShelfFault;
 use irig_vcd::VcdFault;
 use std::alloc::Global;
 
-/// The first path of another recording that leads to the file to which the path to write leads,
-/// too; `None` if there is no such recording, or no path to write. The recordings are looked at in
-/// their order. `Err` if the system does not say where one of them leads, before such a one is
-/// found.
+/// The first other recording that leads to the file to which the path to write leads.
 pub fn over_other<'a, D: Disk>(
     chosen: &Settings<'a>,
     disk: &D,
@@ -60,9 +48,7 @@ pub fn over_other<'a, D: Disk>(
     Ok(None)
 }
 
-/// By what repairs are judged: whether frames may move, and the frames of all other recordings of
-/// the settings that say something of the track, in the order of the recordings (`add_frames_of`).
-/// `Err` has the path of the first recording that cannot be used, and why.
+/// Whether frames may move, and the frames of all other recordings, in their order.
 pub fn terms_of<'a, D: Disk>(
     alloc: Global,
     chosen: &Settings<'a>,
@@ -85,10 +71,7 @@ pub fn terms_of<'a, D: Disk>(
     Ok(terms)
 }
 
-/// Adds to `terms` the frames of the recording at a path that say something of the track, read in
-/// `format`. No wire is named, so the dump has to have one wire of one bit. `Err` says why the
-/// recording cannot be used: its file is not read or memory runs out (`File`), or the dump in it
-/// has a fault or is not opened (`Dump`).
+/// Adds the frames of the recording at a path. No wire is named, so its dump has one of one bit.
 fn add_frames_of<D: Disk>(
     alloc: Global,
     path: &str,
@@ -106,9 +89,7 @@ fn add_frames_of<D: Disk>(
     }
 }
 
-/// Adds to `terms` the frames of a recording that say something of the track, by what was read of
-/// its dump. `Dump` if the dump has a fault or is not opened as a session. If memory runs out after
-/// that, the only other fault of `add_frames`, the error is `File`, with `OutOfMemory`.
+/// Adds the frames of a recording, by what was read of its dump.
 fn add_read(
     alloc: Global,
     read: Result<Parts, VcdFault>,

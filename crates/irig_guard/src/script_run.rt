@@ -1,20 +1,4 @@
-//! A script run under guard on what was read of a dump: each repair is tried, and undone if it
-//! would make a frame wrong. `read` is the recording of a wire and the text of the journal, if
-//! there is one (`Parts`), or the fault of the dump. The path to write must lead to no file that is
-//! read: neither to the dump nor to another recording of the settings (`--with`). Both are tested
-//! before the run. Each write uses the room. `disk` is the files by their paths, `chosen` the
-//! settings, `script` the input with the repairs, and `out` the output for the accepted script: the
-//! repairs that were kept, and the others as comments.
-//!
-//! In a contract, `files` is what is known of the disk before and after, `ends` what is known of
-//! the output, the writes and the script. `held`, `unread`, `is_barred` and `is_told` are as in
-//! `file_run`: what files hold, why they are not read, which must not be written, and whether the
-//! contracts know the folders. `source` is the bytes of the dump, and `read` is what they say
-//! (`Gives`). `HasBytes` says that the journal has no more bytes than a dump may have; `IsApart`
-//! and `AreOthersApart`, that the path to write leads to no dump that is read; `ShowsAll`, that
-//! `terms` has the frames of the other recordings. `Obeys` and `RunsBy` say what was done: for the
-//! settings, and on the bytes. `AreSpared` says that a crash at any moment leaves each dump that is
-//! read as it was.
+//! A script run under guard on what was read of a dump.
 
 ghost use Rattle.std.specs.Prelude.{◌≡◌, ℕ, IfSome, IsTrue, List};
 ghost use Rattle.irig_vcd.specs.{Answer.Gives, Window.parts_in};
@@ -37,9 +21,7 @@ use irig_vcd::{VcdFault, read_back_parts};
 use std::alloc::Global;
 use std::io::{Read, Write};
 
-/// Runs a script under guard on what was read of a dump, if the path to write does not lead to the
-/// dump. `Over` if it does, `Unknown` if that cannot be found out: the script is not read then.
-/// Else the ending is that of `run_with_others`, also if `read` is an `Err`.
+/// Runs a script under guard, if the path to write does not lead to the dump.
 pub fn run_if_apart<'a, D: Disk, R: Read, W: Write>(
     alloc: Global,
     chosen: &Settings<'a>,
@@ -67,10 +49,7 @@ pub fn run_if_apart<'a, D: Disk, R: Read, W: Write>(
     }
 }
 
-/// Runs a script under guard on what was read of a dump, by the frames of the other recordings, if
-/// the path to write leads to none of these. `OverOther` if it does, `Unknown` if that cannot be
-/// found out, `UnusableOther` if one of them cannot be used: the script is not read then. Else
-/// `Ran`, with what `run_on_read` returns.
+/// Runs a script under guard, if the path to write leads to no other recording.
 fn run_with_others<'a, D: Disk, R: Read, W: Write>(
     alloc: Global,
     chosen: &Settings<'a>,
@@ -106,11 +85,7 @@ fn run_with_others<'a, D: Disk, R: Read, W: Write>(
     }
 }
 
-/// Runs a script under guard on what was read of a dump. Repairs are judged by `terms`, which have
-/// the frames of the other recordings. In a window the journal is left out (`used_journal`). What
-/// the settings want written (`product_of`) is written with `room`, the memory for paths. `Ok`
-/// says whether all repairs were kept. `Dump` if `read` is an `Err`, or no session can be made of
-/// what was read; any other fault is one of the run (`guard_on_parts`).
+/// Runs a script under guard on what was read of a dump.
 fn run_on_read<D: Disk, R: Read, W: Write>(
     alloc: Global,
     chosen: &Settings<'_>,
@@ -140,8 +115,7 @@ fn run_on_read<D: Disk, R: Read, W: Write>(
         Ok(parts) => parts,
         Err(fault) => return Err(GuardFault::Dump(fault)),
     };
-    // Does nothing. It is called for its contract: a dump that is written of a recording says the
-    // recording. `RunsBy` says of a window that the script ran on such a dump.
+    // Called for its contract: a dump that is written of a recording says the recording.
     read_back_parts(&recording);
     let journal = used_journal(chosen.window, journal);
     let mut shelf = FileShelf::new(disk, place_of(chosen), room);

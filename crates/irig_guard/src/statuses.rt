@@ -1,10 +1,4 @@
-//! The statuses of the program as a process, and what it says of faults. 0 is that all repairs
-//! were kept, 1 that some were not, 2 a mistake in the command line, 3 a dump that cannot be used,
-//! and 4 that the run was broken off, or that the system does not say where a path leads. `tell`
-//! and `tell_of` print a fault on the standard error, the latter with a path, and return the
-//! status that they get. `explain` prints the help with status 0, or with 2 what is wrong with the
-//! words; the status is 4 if the help cannot be printed. In a contract, `contents` is what came to
-//! an output, and `Reports` says what the output of help and the status are for an ending.
+//! The statuses of the program as a process, and what it says of faults.
 
 ghost use Rattle.std.specs.Prelude.{◌≡◌};
 ghost use Rattle.std.specs.Process.{exit_status};
@@ -20,8 +14,7 @@ use irig_script::Status;
 use std::io::Write;
 use std::process::ExitCode;
 
-/// The status of the process for how the program ended. A fault is printed on the standard error,
-/// and help that was asked for on its output, `help`.
+/// The status of the process for how the program ended.
 pub fn report<R: Eprint, H: Write>(rt: &R, ending: &Ending<'_>, help: &mut H) -> ExitCode
     ensures { Reports ending.now (H.contents help.old) (H.contents help.new) (exit_status result) }
 {
@@ -37,15 +30,14 @@ pub fn report<R: Eprint, H: Write>(rt: &R, ending: &Ending<'_>, help: &mut H) ->
     }
 }
 
-/// Says on the standard error why the recording at this path was not read. The status is 3.
+/// Says why the recording at this path was not read.
 fn tell_unread<R: Eprint>(rt: &R, path: &str, fault: DumpFileFault) -> ExitCode
     ensures { exit_status result ≡ 3 }
 {
     program().tell_of(rt, 3, path, &unread_text(fault))
 }
 
-/// Says on the standard error that the path to write leads to another recording, that at `path`,
-/// which is not written over. The status is 2, also if that cannot be printed.
+/// Says that the path to write leads to another recording, that at `path`.
 fn tell_over<R: Eprint>(rt: &R, path: &str) -> ExitCode
     ensures { exit_status result ≡ 2 }
 {
@@ -53,8 +45,7 @@ fn tell_over<R: Eprint>(rt: &R, path: &str) -> ExitCode
     ExitCode::from(2)
 }
 
-/// Says on the standard error why another recording, that at `path`, cannot be used: for a fault
-/// of its file, or of the dump in it. The status is 3.
+/// Says why another recording, that at `path`, cannot be used.
 fn tell_unusable<R: Eprint>(rt: &R, path: &str, why: OtherFault) -> ExitCode
     ensures { exit_status result ≡ 3 }
 {
@@ -64,8 +55,7 @@ fn tell_unusable<R: Eprint>(rt: &R, path: &str, why: OtherFault) -> ExitCode
     }
 }
 
-/// What the program says of a file that it did not read. Out of memory has the number (`V14`) that
-/// it has as a fault of a dump.
+/// What the program says of a file that it did not read.
 fn unread_text<'a>(fault: DumpFileFault) -> &'a str
     ensures { result.now ≡ unread_text fault }
 {
@@ -76,9 +66,7 @@ fn unread_text<'a>(fault: DumpFileFault) -> &'a str
     }
 }
 
-/// The exit status for how a run ended on the dump at this path: 3 for a dump that cannot be used,
-/// 4 for another fault; both are printed on the standard error. Without a fault it is that of
-/// `tell_kept`.
+/// The exit status for how a run on the dump at this path ended.
 fn tell_ended<R: Eprint>(rt: &R, path: &str, outcome: Result<Kept, GuardFault>) -> ExitCode
     ensures { exit_status result ≡ status_number outcome }
 {
@@ -89,9 +77,7 @@ fn tell_ended<R: Eprint>(rt: &R, path: &str, outcome: Result<Kept, GuardFault>) 
     }
 }
 
-/// The exit status for a run that came to its end: 0 if all repairs were kept, else 1, and 1 if
-/// there was no frame to go by, which is said on the standard error. Also says there how many
-/// frames have control functions that are not in the recording, if some have (`tell_filled`).
+/// The exit status for a run that came to its end.
 fn tell_kept<R: Eprint>(rt: &R, path: &str, kept: Kept) -> ExitCode
     ensures { exit_status result ≡ kept_number kept.judged kept.status }
 {
@@ -108,9 +94,7 @@ fn tell_kept<R: Eprint>(rt: &R, path: &str, kept: Kept) -> ExitCode
     }
 }
 
-/// Says on the standard error how many frames of the track at this path have control functions
-/// that are not in the recording (`filled`); nothing if none has. The status does not depend on
-/// it, since nothing says that they are wrong: so it does not matter if it cannot be printed.
+/// Says how many frames have control functions that are not in the recording, if some have.
 fn tell_filled<R: Eprint>(rt: &R, path: &str, filled: usize) {
     let frames = if filled == 1 { "frame" } else { "frames" };
     if filled > 0 {

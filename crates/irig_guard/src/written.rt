@@ -1,8 +1,4 @@
-//! What a run writes, and where, by the options `--out` and `--save`. Only the path of `--out` is
-//! written. It must not lead to the dump, also not through a link, since the dump is never written.
-//! In a contract, `disk` has the folders, and `is_told` says whether the contracts know them: true
-//! of folders in memory, false of the system. `IsApart` says that no path to write leads to the
-//! dump, `LeadToOneFile` that two paths lead to the same file.
+//! What a run writes, and where, by the options `--out` and `--save`.
 
 ghost use Rattle.std.specs.Prelude.{◌≡◌, IfOk, IsTrue, false, is_some, true};
 ghost use Rattle.irig_guard.specs.Given.{IsApart, place_of, product_of};
@@ -28,8 +24,7 @@ pub fn is_over<D: Disk>(chosen: &Settings<'_>, disk: &D) -> Result<bool, ShelfFa
     }
 }
 
-/// The path to write, which is that of `--out`. Without one it is that of the dump: a run needs
-/// some path, but then it writes nothing (`product_of`).
+/// The path to write, which is that of `--out`.
 pub fn place_of<'a>(chosen: &Settings<'a>) -> &'a str
     ensures { result.now ≡ place_of chosen.now }
 {

@@ -1,9 +1,5 @@
 //! Whether the pulses of a frame, one for each of its 100 elements, are where the recording
-//! (`opened`) has them. A pulse is an anchor if it rises when one of the recording does, or is a
-//! gap of it turned over: it rises when one falls and falls when one rises. Elements count from 0,
-//! and so do markers: a marker is the place of a frame's first pulse among all pulses. `near` is
-//! the frames of the recording next to a frame, two on each side. `hint` is the pulse of the
-//! recording to look at first, to save a search: no answer depends on it.
+//! (`opened`) has them.
 
 ghost use Rattle.std.specs.Prelude.{◌≡◌, ◌↔◌, ◌-◌, ◌≤◌, ◌<◌, IfSome, IsTrue, Some};
 ghost use Rattle.irig_safety.specs.Anchors.{is_anchored, next_anchor};
@@ -16,9 +12,7 @@ use irig_edit::Session;
 use irig_safety::{Original, Witnesses};
 
 /// Whether each of the 100 pulses of a frame is an anchor, or where the nearest anchors have it
-/// (`is_held`). `last` is the element of the nearest anchor before the one that is looked at, and
-/// `next` that of the first anchor from this one on; `None` if the frame has none there. On that
-/// side the marker of the next frame of the recording holds the pulse instead (`near_markers`).
+/// (`is_held`).
 pub fn are_placed(session: &Session, opened: &Original, near: &Witnesses, frame: &Seen) -> bool
     ensures { IsTrue result ↔ Stands opened.now session.now.state near.now frame.now }
 {
@@ -72,7 +66,7 @@ fn is_anchored(
     opened.holds(pulse_at(session, marker, element), hint)
 }
 
-/// Whether `anchor`, the element of an anchor if there is one, is this element. False for `None`.
+/// Whether `anchor`, the element of an anchor if there is one, is this element.
 fn is_at(anchor: Option<usize>, element: usize) -> bool
     ensures { IsTrue result ↔ (anchor ≡ Some element) }
 {

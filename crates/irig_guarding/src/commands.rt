@@ -1,8 +1,4 @@
-//! What the lines of a proposed script ask for. `begin` opens a group, `end` ends it, and `abort`
-//! gives it up. A line that is not valid, or has more than 1000 bytes, is none of these, no edit
-//! and no comment. Each question is asked of a line by one function (`begins`), and of the command
-//! that the line asks for by another one (`is_begin`). In contracts `Asks c line` says that the
-//! line is valid, not too long, and asks for the command `c`.
+//! What the lines of a proposed script ask for.
 
 ghost use Rattle.std.specs.Prelude.{◌≡◌, ◌↔◌, ◌⊎◌, IsTrue, MatchOption};
 ghost use Rattle.irig_guarding.specs.Repair.{Asks, IsRepair, texts};
@@ -39,8 +35,7 @@ fn command_in(line: &[u8]) -> Option<Command>
 }
 
 /// Whether a command is an edit, as a repair has them: it edits pulses, or sets or clears a mark,
-/// which is a letter for a time. False for each other command, also for `begin`, `end` and `abort`,
-/// for `undo` and for a comment.
+/// which is a letter for a time.
 pub fn is_edit(command: &Command) -> bool
     ensures { IsTrue result ↔ IsRepair command.now }
 {
@@ -55,7 +50,7 @@ pub fn is_edit(command: &Command) -> bool
     }
 }
 
-/// Whether a line is a `begin`, which opens a group. False if it is not valid or too long.
+/// Whether a line is a `begin`, which opens a group.
 pub fn begins(line: &Line) -> bool
     ensures { IsTrue result ↔ Asks command.Begin line.now.bytes.items }
 {
@@ -72,8 +67,7 @@ fn is_begin(command: &Command) -> bool
     matches!(command, Command::Begin)
 }
 
-/// Whether a line is an `end`, which ends a group and keeps what it did. False for `abort`, and if
-/// the line is not valid or too long.
+/// Whether a line is an `end`, which ends a group and keeps what it did.
 pub fn ends(line: &Line) -> bool
     ensures { IsTrue result ↔ Asks command.End line.now.bytes.items }
 {
@@ -90,8 +84,7 @@ fn is_end(command: &Command) -> bool
     matches!(command, Command::End)
 }
 
-/// Whether a line closes a group: `end` ends it, `abort` gives it up. False if the line is not
-/// valid or too long.
+/// Whether a line closes a group: `end` ends it, `abort` gives it up.
 pub fn closes(line: &Line) -> bool
     ensures { IsTrue result ↔ IsClosing line.now.bytes.items }
 {
@@ -108,8 +101,7 @@ fn is_closing(command: &Command) -> bool
     matches!(command, Command::End | Command::Abort)
 }
 
-/// Whether a line is a comment, or blank: it asks for nothing. False if it is too long, even if it
-/// begins as a comment.
+/// Whether a line is a comment, or blank: it asks for nothing.
 pub fn is_comment(line: &Line) -> bool
     ensures { IsTrue result ↔ Asks command.Nothing line.now.bytes.items }
 {
@@ -127,8 +119,7 @@ fn is_nothing(command: &Command) -> bool
 }
 
 /// Whether lines that are tried together are one line alone, a comment or a blank one: that is no
-/// repair, and is printed as it is. False for two lines or more, even if all are comments: a script
-/// is cut so that these are a group, from its `begin` on. False for no line.
+/// repair, and is printed as it is.
 pub fn is_lone_comment(lines: &[Line]) -> bool
     ensures { IsTrue result ↔ IsIdle (texts lines.now) }
 {

@@ -1,13 +1,4 @@
-//! Whether the control functions of the frames are borne out. One is borne out if the two frames
-//! nearest to its own have it, too, if the recording has its pulse or lost it, or if most other
-//! recordings have it. A frame reads well if nothing is wrong in it. `opened` is what is known of
-//! the recording. `former` is its frames that read well, at the places where they are now if frames
-//! may move, and `near` those of them next to a frame. A former frame is passed if the frames that
-//! were looked at have one that begins when it does; `passed` counts these, so it is also the place
-//! in `former`, from 0, of the next one. A frame has at most 45 functions, by their numbers from 0;
-//! they are bits of a `u64`, so each number is below 64. The faults: `Lost` of a former frame if no
-//! frame begins when it did, `Unrecorded` of a frame with a function that is not borne out. In
-//! contracts `with_frames` is what is known of the recording, with `former` as its frames.
+//! Whether the control functions of the frames are borne out.
 
 ghost use Rattle.std.specs.Prelude.{◌↔◌, ◌+◌, ◌<◌, ◌≤◌, ◌∷◌, List, IsTrue, None, Option, Some};
 ghost use Rattle.std.specs.Prelude.{IfErr, IfOk, OnErr, OnOk, length, slice_get};
@@ -27,9 +18,7 @@ use irig_safety::{
 };
 
 /// Whether each of `frames`, those that read well now, is the former one that begins when it does,
-/// or has only control functions that are borne out (`judge_next`). If not, `Err` is the first
-/// fault, `Lost` or `Unrecorded`. Both lists are in rising order, so one pass over both is enough.
-/// Former frames after the last of `frames` are not looked for: `check_safe` did that before.
+/// or has only control functions that are borne out (`judge_next`).
 pub fn check_controls(
     session: &Session,
     opened: &Original,
@@ -58,13 +47,7 @@ pub fn check_controls(
 }
 
 /// Judges one more frame by the next former one. `Ok` has how many former frames are passed then,
-/// `Err` the fault. There are four cases. If the next former frame begins later, or there is none,
-/// the frame is new: its functions are judged by the two former frames before it and the two after
-/// it, and no former one is passed. If the next one begins earlier, it is `Lost`. If both begin at
-/// the same time, the former one is passed. If their fields are the same, too, the functions are
-/// not judged; else they are, by the two former frames before that one and the two after it
-/// (`near_in` gives both pairs). In the clauses `rest` is any frames after `frame`, and `found` the
-/// fault of these, if they have one, from a place of `former` on (`ControlsAt`).
+/// `Err` the fault.
 fn judge_next(
     session: &Session,
     opened: &Original,
@@ -100,9 +83,7 @@ fn judge_next(
     judge_functions(session, opened, &around, frame, passed + 1)
 }
 
-/// Judges a frame by its control functions (`are_functions_borne`). If all are borne out, `Ok` with
-/// `passed`, how many former frames are passed then. Else `Unrecorded`, with the frame. `near` is
-/// the former frames next to it.
+/// Judges a frame by its control functions (`are_functions_borne`).
 fn judge_functions(
     session: &Session,
     opened: &Original,
@@ -119,8 +100,7 @@ fn judge_functions(
     }
 }
 
-/// Whether all control functions of a frame are borne out (`is_function_borne`). True if the format
-/// has none.
+/// Whether all control functions of a frame are borne out (`is_function_borne`).
 fn are_functions_borne(session: &Session, opened: &Original, near: &Witnesses, frame: &Seen) -> bool
     ensures { IsTrue result ↔ IsBorne opened.now session.now.state near.now frame.now }
 {
@@ -133,10 +113,7 @@ fn are_functions_borne(session: &Session, opened: &Original, near: &Witnesses, f
     true
 }
 
-/// Whether a control function of a frame, by its number, is borne out. One of three is enough. The
-/// two former frames nearest to the frame have it as the frame does (`is_shared`). The recording
-/// has its pulse, or lost it (`is_borne_by_recording`). Of the frames of other recordings with this
-/// time more have it as this one does than otherwise (`is_told`).
+/// Whether a control function of a frame, by its number, is borne out. One of three is enough.
 fn is_function_borne(
     session: &Session,
     opened: &Original,

@@ -1,5 +1,4 @@
-//! How a proposed script is cut into repairs. A repair is a line, or a group: the lines from a
-//! `begin` to the first `end` or `abort` after it. `texts` in a contract is the bytes of lines.
+//! How a proposed script is cut into repairs.
 
 ghost use Rattle.std.specs.Prelude.{◌<◌, ◌≤◌, ◌-◌, drop, length, take};
 ghost use Rattle.irig_guarding.specs.{Repair.texts, Cutting.IsCutBefore};
@@ -9,8 +8,7 @@ use crate::line::Line;
 
 /// The place, from 0, after the last line of the repair that begins at the place `at`. If the line
 /// there is a `begin`, the repair is a group: up to the first line that closes it (`closes`), or
-/// all lines that are left if none does. Any other line is a repair of its own. `IsCutBefore` says
-/// that of the lines of the repair and of those after it.
+/// all lines that are left if none does.
 pub fn repair_end(lines: &[Line], at: usize) -> usize
     requires { at < length lines.now }
     ensures more { at < result }

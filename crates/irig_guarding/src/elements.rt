@@ -1,9 +1,4 @@
-//! The pulses of a frame's elements, and whether the recording has them. A frame has a pulse for
-//! each of its 100 elements; an interval is the time from one element to the next. Elements count
-//! from 0, and so do markers: a marker is the place of a frame's first pulse among all pulses, and
-//! the pulse of element k is k places after it. The control functions are bits of a frame, each at
-//! an element of its own. The class of a pulse is what its width means, if it means anything.
-//! `opened` is what is known of the recording.
+//! The pulses of a frame's elements, and whether the recording has them.
 
 ghost use Rattle.std.specs.Prelude.{◌≡◌, ◌↔◌, ◌⊎◌, ◌+◌, ◌<◌, IsTrue, MatchOption, slice_get};
 ghost use Rattle.irig_safety.specs.{Functions.function_element, Rises.rise_in};
@@ -14,8 +9,6 @@ use irig_edit::{Pulse, Session};
 use irig_safety::{Original, function_element, rise_or};
 
 /// The pulse of an element of the frame with this marker; `None` if the session has no such pulse.
-/// The pulses of a session count from 1, so 1 is added. The test subtracts, as the sum of marker
-/// and element could be too large for its type.
 pub fn pulse_at(session: &Session, marker: usize, element: usize) -> Option<Pulse>
     ensures { result ≡ slice_get session.now.state.pulses (marker + element) }
 {
@@ -36,7 +29,7 @@ pub fn rise_at(session: &Session, marker: usize, element: usize) -> u64
 
 /// Whether the recording has the pulse of a control function, by its number from 0, of the frame
 /// with this marker: a pulse of the same class that rises within a tenth of an interval of that one
-/// (`Original::has`). False if the session has no pulse for the function.
+/// (`Original::has`).
 pub fn is_recorded_at(session: &Session, opened: &Original, marker: usize, function: u32) -> bool
     requires { function < 64 }
     ensures { IsTrue result ↔ MatchOption (slice_get session.now.state.pulses
@@ -51,7 +44,7 @@ pub fn is_recorded_at(session: &Session, opened: &Original, marker: usize, funct
 }
 
 /// Whether the recording bears out a pulse of a control function: it has the pulse, or lost what
-/// was there (`is_recorded_or_lost`). False for `None`: the session has no such pulse.
+/// was there (`is_recorded_or_lost`).
 pub fn is_borne_by_recording(session: &Session, opened: &Original, pulse: Option<Pulse>) -> bool
     ensures { IsTrue result ↔ MatchOption pulse ⊥ (λ q.
         IsRecorded session.now.state.format opened.now.pulses q
@@ -64,9 +57,7 @@ pub fn is_borne_by_recording(session: &Session, opened: &Original, pulse: Option
 }
 
 /// Whether a pulse is recorded, or what was recorded of it is lost. It is recorded if the recording
-/// has a pulse of its class within a tenth of an interval of it (`has`). It is lost if the
-/// recording has no pulse with a class within half an interval (`has_any`), and so says nothing
-/// against it. False if there is one with a class that near, but none of this class within a tenth.
+/// has a pulse of its class within a tenth of an interval of it (`has`).
 fn is_recorded_or_lost(format: Format, opened: &Original, pulse: Pulse) -> bool
     ensures { IsTrue result ↔ (IsRecorded format opened.now.pulses pulse
         ⊎ IsLost format opened.now.pulses pulse) }

@@ -1,7 +1,5 @@
 //! How many frames have control functions that are not in the recording: it has no pulse of the
-//! same width class within a tenth of an interval of theirs. Such a frame is filled: a repair can
-//! have filled it in. A frame reads well if nothing is wrong in it. `opened` is what is known of
-//! the recording. Markers, the places of first pulses of frames, count from 0.
+//! same width class within a tenth of an interval of theirs.
 
 ghost use Rattle.std.specs.Prelude.{◌≡◌, ◌↔◌, IsTrue};
 ghost use Rattle.irig_guarding.specs.Fillings.{AreFilled, Fills, IsWhole};
@@ -43,7 +41,7 @@ fn count_filled_among(session: &Session, opened: &Original, frames: &[Seen]) -> 
 }
 
 /// Whether the recording has all control functions of a frame, each at its place
-/// (`is_recorded_at`). True if the format has none. False also if the session has no pulse for one.
+/// (`is_recorded_at`).
 fn has_all_recorded(session: &Session, opened: &Original, frame: &Seen) -> bool
     ensures { IsTrue result ↔ IsWhole opened.now session.now.state frame.now }
 {

@@ -1,11 +1,4 @@
-//! Whether the frames of a state are safe. A frame reads well if nothing is wrong in it. `opened`
-//! is what is known of the recording. `former` is its frames that read well, and `before` those
-//! that read well before the repair, both at the places where they are now. `shown` and `seen` are
-//! both the frames that read well now, `seen` with their markers. `known_markers` has for each
-//! former frame the marker at which its pulses are known to rise as they did, or `None`. In
-//! contracts `FinesStayAt` says that the frames are safe, and each of `before` is still there, and
-//! `HasFineFaultAt` which fault is the first: `with_frames` is what is known of the recording,
-//! with `former` as its frames.
+//! Whether the frames of a state are safe.
 
 ghost use Rattle.std.specs.Prelude.{◌≡◌, IfErr, OnErr, OnOk};
 ghost use Rattle.irig_safety.specs.Original.{with_frames};
@@ -24,8 +17,7 @@ use irig_safety::{Fault, Original, Shown, check_safe, check_unspoiled};
 /// Whether the frames that read well now are safe, by the former ones and those before the repair,
 /// both at the places where they are now. There are four checks, in this order: of the times
 /// (`check_safe`), of the control functions (`check_borne`), of the pulses (`check_pulses`), and
-/// that each frame of `before` still reads well (`check_unspoiled`). If not, the fault of the
-/// first check that fails.
+/// that each frame of `before` still reads well (`check_unspoiled`).
 pub fn check_fines(
     session: &Session,
     opened: &Original,
@@ -57,10 +49,8 @@ pub fn check_fines(
     check_unspoiled(before, shown)
 }
 
-/// Whether the control functions of the frames are borne out: by the frames nearest to each, by
-/// the recording, or by most other recordings (`check_controls`). If not, the first fault. If no
-/// frame of the recording reads well, none is nearest: then they are not judged, and the answer is
-/// `Ok`.
+/// Whether the control functions of the frames are borne out: by the frames nearest to each, by the
+/// recording, or by most other recordings (`check_controls`).
 fn check_borne(
     session: &Session,
     opened: &Original,
@@ -82,9 +72,7 @@ fn check_borne(
 }
 
 /// Whether the pulses of the frames are where they may be: where they were, or where the recording
-/// supports them (`check_rises`). If not, the first fault. If no frame of the recording reads
-/// well, they only have to be rooted (`check_rooted`): 60 or more of the 100 pulses of each frame
-/// are anchors, which rise where the recording has one.
+/// supports them (`check_rises`).
 fn check_pulses(
     session: &Session,
     opened: &Original,

@@ -9,7 +9,7 @@ use std::alloc::AllocError;
 
 /// Prints a frame to `out` by its time and its rise, as in `frame 061 12:34:57 at 2000000`: the day
 /// of the year and the time of day as the editor prints them, and when the frame begins, in
-/// microseconds. `Err` means that memory ran out.
+/// microseconds.
 pub fn put_frame(out: &mut Vec<u8>, frame: &Shown) -> Result<(), AllocError>
     ensures { OnOk result (out.new.items ≡ out.old.items ++ frame_text frame.now) }
 {

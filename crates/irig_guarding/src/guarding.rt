@@ -1,13 +1,4 @@
-//! A proposed script, run repair by repair. A repair is an edit, or a group: the lines from a
-//! `begin` to its `end` or `abort`. A frame reads well if nothing is wrong in it. A repair is safe
-//! if no such frame is lost or becomes wrong by it, and the frames next to each one that it makes
-//! support what that one says. A repair that is accepted and safe is kept, any other is dropped.
-//! `opened` is what is known of the recording. `last` is the frames that read well after the last
-//! repair that was kept, at first those of the recording; `Frames` has them twice, with their
-//! markers (`seen`) and without (`shown`). `known_markers` has for each frame of the recording
-//! that read well the marker at which its pulses are known to rise as they did, so that they are
-//! not compared again. `Err` means in each function that memory ran out. `floor ≡ None` in a
-//! contract: no group is open.
+//! A proposed script, run repair by repair.
 
 ghost use Rattle.std.specs.Prelude.{◌≡◌, [], IfOk, None, OnOk, is_none, if◌then◌else◌};
 ghost use Rattle.irig_guarding.specs.Guarded.{IsGuarded, IsSafeAfter, Reaches};
@@ -38,13 +29,7 @@ use irig_script::Status;
 use std::alloc::{AllocError, Global};
 
 /// Runs a proposed script on a session repair by repair; no group is open in it. A repair that is
-/// kept is printed as it is, and so are comments. One that is dropped is printed as comments,
-/// after the reason. If no frame of the recording reads well, a comment says so first
-/// (`put_head`). `terms` are frames of other recordings, which can support a frame, too, and
-/// whether frames may move. Returns what is printed, whether all was kept, and how many frames
-/// have a control function then that is not in the recording (`count_filled`: 0 if frames may
-/// move, or none of the recording reads well), and whether there is a frame to go by
-/// (`is_judged`).
+/// kept is printed as it is, and so are comments.
 pub fn guard(
     alloc: Global,
     session: &mut Session,
@@ -87,9 +72,7 @@ pub fn guard(
     Ok((out, kept))
 }
 
-/// Runs lines on a session repair by repair, and prints each one to `out` (`guard_repair`). Before
-/// the call `out` has only what `put_head` printed. `known_markers` and `last` become those after
-/// the last repair that is kept. Returns `AllAccepted`, or `SomeRefused` if a repair was dropped.
+/// Runs lines on a session repair by repair, and prints each one to `out` (`guard_repair`).
 fn guard_lines(
     alloc: Global,
     session: &mut Session,
@@ -131,8 +114,7 @@ fn guard_lines(
     Ok(status)
 }
 
-/// The status after one more repair. `SomeRefused` if that one was dropped, for the reason
-/// `dropped`; else `status`, which is the one before that repair.
+/// The status after one more repair.
 fn status_with(status: Status, dropped: Option<Reason>) -> Status
     ensures { result ≡ if is_none dropped then status else SomeRefused }
 {
@@ -142,9 +124,7 @@ fn status_with(status: Status, dropped: Option<Reason>) -> Status
     }
 }
 
-/// Tries one repair (`try_repair`), and prints it to `out` (`put_repair`). Returns why it was
-/// dropped; `None` if it was kept. `known_markers` and `last` become those after it, or stay if it
-/// was dropped.
+/// Tries one repair (`try_repair`), and prints it to `out` (`put_repair`).
 fn guard_repair(
     alloc: Global,
     session: &mut Session,
@@ -175,10 +155,7 @@ fn guard_repair(
 
 /// Tries one repair. Returns why it was dropped; `None` if it was kept. If it was kept,
 /// `known_markers` and `last` become those after it. If it was dropped, it is undone for good:
-/// nothing has changed, but nothing may be left to redo. A comment or blank line alone is kept,
-/// since it does nothing (`is_lone_comment`). `keep_if_safe` gets a copy of `known_markers`
-/// (`tried`), since it leaves wrong ones after an error. Memory that runs out for that copy is
-/// `Err`; if it runs out in `keep_if_safe`, that is the reason `OutOfMemory`.
+/// nothing has changed, but nothing may be left to redo.
 fn try_repair(
     alloc: Global,
     session: &mut Session,

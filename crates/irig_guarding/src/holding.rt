@@ -1,12 +1,4 @@
-//! Where anchors have the pulse of an element of a frame. An anchor is a pulse of the frame that
-//! rises where the recording has one; others have to be on the line or curve between the nearest
-//! anchors, which hold them. If no anchor of the frame is on one side, the marker of the next frame
-//! of the recording on that side holds them instead: the first pulse of that frame. An `Anchor` is
-//! what holds a pulse, as seen from its element: how many elements away (`steps`), and when it
-//! rises, in microseconds. A frame has 100 elements; they count from 0. `near` is the frames of the
-//! recording next to a frame, two on each side. `last` is the element of the frame's nearest anchor
-//! before an element, and `next` that of the nearest one after it. Bounds as 2^16 and 2^17 only
-//! keep sums in their types.
+//! Where anchors have the pulse of an element of a frame.
 
 ghost use Rattle.std.specs.Prelude.{◌≡◌, ◌≤◌, ◌<◌, ◌^◌, IfSome};
 ghost use Rattle.irig_safety.specs.Placed.{held_after, held_before, is_held};
@@ -29,8 +21,7 @@ pub struct NearMarkers {
     pub after: Option<Anchor>,
 }
 
-/// The markers of the two frames next to a frame. `marker_before` and `marker_after` look up to 500
-/// frames away: 50,000 elements, below 2^16.
+/// The markers of the two frames next to a frame.
 pub fn near_markers_of(session: &Session, near: &Witnesses, frame: &Seen) -> NearMarkers
     ensures before { result.before
         ≡ marker_before session.now.state.format near.now frame.now.shown 0 }
@@ -48,9 +39,6 @@ pub fn near_markers_of(session: &Session, near: &Witnesses, frame: &Seen) -> Nea
 
 /// Whether the pulse of an element rises where what holds it has it (`is_on_line`). If it is held
 /// from before and from after (`held_before`, `held_after`): on the line or curve between the two.
-/// If from one side only: as far from it as its steps take, nominally or by the clock of the frames
-/// `near`. False if nothing holds it. If `last` or `next` is `None`, the marker of `near_markers`
-/// on that side holds it.
 pub fn is_held(
     session: &Session,
     near: &Witnesses,
@@ -82,7 +70,6 @@ pub fn is_held(
 
 /// What holds an element from before: the anchor `last` of its frame, or without one the marker of
 /// the frame before (`marker_before_from`); `before` is that marker as the frame's own sees it.
-/// `None` if both are. `near` is for the contract alone.
 fn held_before(
     session: &Session,
     near: &Witnesses,
@@ -109,8 +96,7 @@ fn held_before(
 }
 
 /// What holds an element from after: the anchor `next` of its frame, or without one the marker of
-/// the frame after (`marker_after_from`); `after` is that marker as the frame's own sees it. `None`
-/// if both are. `near` is for the contract alone.
+/// the frame after (`marker_after_from`); `after` is that marker as the frame's own sees it.
 fn held_after(
     session: &Session,
     near: &Witnesses,
@@ -136,7 +122,7 @@ fn held_after(
 }
 
 /// The marker of the frame before, as seen from an element of this frame: `element` steps farther
-/// than from this frame's own marker, as `before` has it. `None` if `before` is.
+/// than from this frame's own marker, as `before` has it.
 fn marker_before_from(before: Option<Anchor>, element: usize) -> Option<Anchor>
     requires { IfSome before (λ a. a.steps ≤ 2 ^ 16) × (element < 100) }
     ensures value { (f : FormatView) (w : SomeWitnesses) (y : ShownFrame)
@@ -153,7 +139,7 @@ fn marker_before_from(before: Option<Anchor>, element: usize) -> Option<Anchor>
 }
 
 /// The marker of the frame after, as seen from an element of this frame: `element` steps nearer
-/// than from this frame's own marker, as `after` has it. `None` if `after` is.
+/// than from this frame's own marker, as `after` has it.
 fn marker_after_from(after: Option<Anchor>, element: usize) -> Option<Anchor>
     requires { IfSome after (λ a. a.steps ≤ 2 ^ 16) }
     ensures value { (f : FormatView) (w : SomeWitnesses) (y : ShownFrame)

@@ -1,16 +1,4 @@
-//! Whether what a repair leads to may stay. A frame reads well if nothing is wrong in it. A state
-//! is safe if no frame of the recording that read well is lost or became wrong, the frames next to
-//! each one that is new support what it says, each recorded pulse that was in step has a pulse in
-//! its place, and some frame reads well, now or in the recording. `opened` is what is known of the
-//! recording. `former` is its frames that read well, and `before` those that read well before the
-//! repair: below `check_moved` both are at the places where they are now. `shown` and `seen` are
-//! both the frames that read well now, `seen` with their markers. `known_markers` has for each
-//! former frame the marker at which its pulses are known to rise as they did, or `None`. In
-//! contracts `MayStay` says that the state is safe, and each frame of `before` is still there, and
-//! `Sways` why it may not stay: `NotSafe` with the first fault, or `OutOfMemory`, after which
-//! nothing is known. `StaysAt` and `HasFaultAt` say so by frames at given places: `with_frames` is
-//! what is known of the recording, with `former` as its frames. `Lists`: these frames read well
-//! now.
+//! Whether what a repair leads to may stay.
 
 ghost use Rattle.std.specs.Prelude.{◌≡◌, IfErr, IfOk, OnErr, OnOk, false, true};
 ghost use Rattle.irig_safety.specs.Original.{with_frames};
@@ -28,9 +16,7 @@ use irig_safety::{Fault, Original, Shown, moved_in};
 use std::alloc::Global;
 
 /// Whether the frames that read well now may stay: they are safe by those that did when the
-/// recording was opened, and each that did before the repair still does. If so, returns them. Else
-/// `NotSafe` with the first fault (`check_listed`), or `OutOfMemory`, also if memory runs out for
-/// the list of these frames.
+/// recording was opened, and each that did before the repair still does.
 pub fn check(
     alloc: Global,
     session: &Session,
@@ -52,9 +38,8 @@ pub fn check(
     }
 }
 
-/// Whether these frames, which read well now, may stay: by `check_moved` if frames of the
-/// recording may be at other times now, else by `check_unmoved`. If not, `NotSafe` with the first
-/// fault, or `OutOfMemory`, which can only come if frames may move.
+/// Whether these frames, which read well now, may stay: by `check_moved` if frames of the recording
+/// may be at other times now, else by `check_unmoved`.
 fn check_listed(
     alloc: Global,
     session: &Session,
@@ -77,8 +62,7 @@ fn check_listed(
 }
 
 /// Whether the frames that read well now may stay, if none may move. They are judged by the former
-/// frames and by those before the repair, where these were (`check_frames`). If not, `NotSafe`
-/// with the first fault.
+/// frames and by those before the repair, where these were (`check_frames`).
 fn check_unmoved(
     session: &Session,
     opened: &Original,
@@ -103,8 +87,7 @@ fn check_unmoved(
 
 /// Whether the frames that read well now may stay, if frames may move. The former frames and those
 /// before the repair are first brought to the places where they are now (`moved_in`); by these the
-/// frames are judged (`check_frames`). If not, `NotSafe` with the first fault; or `OutOfMemory` if
-/// memory runs out for the two lists.
+/// frames are judged (`check_frames`).
 fn check_moved(
     alloc: Global,
     session: &Session,
@@ -142,9 +125,7 @@ fn check_moved(
 }
 
 /// Whether what a repair leads to may stay, by the former frames and those before the repair, both
-/// at the places where they are now. There are three checks, in this order: of the frames
-/// (`check_fines`), of the recorded pulses that were in step (`check_steps`), and that there is a
-/// frame to go by (`check_judged`). If not, the fault of the first check that fails.
+/// at the places where they are now.
 fn check_frames(
     session: &Session,
     opened: &Original,
@@ -173,8 +154,7 @@ fn check_frames(
     check_judged(former, shown)
 }
 
-/// Whether there is a frame to go by (`is_judged`). If not, nothing says whether the repair is
-/// right, so it is `Unjudged`.
+/// Whether there is a frame to go by (`is_judged`).
 fn check_judged(former: &[Shown], shown: &[Shown]) -> Result<(), Fault>
     ensures judged { OnOk result (IsJudged former.now shown.now) }
     ensures unjudged_so { OnErr result (IsJudged former.now shown.now → ⊥) }

@@ -1,11 +1,5 @@
 //! The former frames whose pulses are known to rise as they did, so that they are not compared
-//! again after each repair. Former frames are those of the recording that read well, with nothing
-//! wrong in them, when it was opened (`opened`). A marker is the place of a frame's first pulse
-//! among all pulses, from 0. Pulses rise as they did if each is as long after its frame's marker as
-//! in the recording. `known_markers` has one item for each former frame: the marker of the frame of
-//! now at which its pulses are known to rise as they did, or `None` if that is not known. In
-//! contracts `AreKnown` says that this is so for a recording and some pulses, and `Follows` what a
-//! marker becomes by an edit.
+//! again after each repair.
 
 ghost use Rattle.std.specs.Prelude.{◌≡◌, List, None, IfOk, IfSome, IsTrue, Some, get_or, length};
 ghost use Rattle.irig_guarding.specs.Known.{AreKnown, Became, Follows};
@@ -20,7 +14,7 @@ use irig_safety::{Original, Shown};
 use std::alloc::{AllocError, Global};
 
 /// The known markers if nothing is known yet: a list of `count` times `None`, one for each former
-/// frame. `Err` means that memory ran out.
+/// frame.
 pub fn nothing_known(alloc: Global, count: usize) -> Result<Vec<Option<usize>>, AllocError>
     ensures { (o : OriginalView) (ps : List SomePulse)
         → IfOk result (λ known. AreKnown o ps known.items) }
@@ -33,8 +27,7 @@ pub fn nothing_known(alloc: Global, count: usize) -> Result<Vec<Option<usize>>, 
 }
 
 /// Whether it is known that the pulses of the former frame at a place, from 0, rise as they did, in
-/// the frame of now with this marker. False if that is not known, though they may do so, and if
-/// there is no such place.
+/// the frame of now with this marker.
 pub fn is_known(known_markers: &[Option<usize>], place: usize, marker: usize) -> bool
     ensures { IsTrue result → get_or known_markers.now place None ≡ Some marker }
 {
@@ -45,7 +38,7 @@ pub fn is_known(known_markers: &[Option<usize>], place: usize, marker: usize) ->
     }
 }
 
-/// Whether a marker is known, and is this one. False for `None`.
+/// Whether a marker is known, and is this one.
 fn is_marker(known: Option<usize>, marker: usize) -> bool
     ensures { IsTrue result → known ≡ Some marker }
 {
@@ -57,9 +50,7 @@ fn is_marker(known: Option<usize>, marker: usize) -> bool
 
 /// Fills in markers that are not known yet. Each of `frames`, those that read well now, is compared
 /// with the first former frame that does not begin before it (`place_from`), if no marker is known
-/// for that one (`learn_marker`). For a frame that has moved this can be another one than its own.
-/// Then its marker stays unknown, and its pulses are only compared again later. Both lists are in
-/// rising order, so the place among the former frames only grows.
+/// for that one (`learn_marker`).
 pub fn learn_markers(
     session: &Session,
     opened: &Original,
@@ -77,8 +68,7 @@ pub fn learn_markers(
 }
 
 /// The place, from 0, of the first of the frames `former`, from the place `from` on, that does not
-/// begin before `rise`, in microseconds. If all of them begin before it, the length of the list. It
-/// has no contract: a wrong place would only mean that less is known.
+/// begin before `rise`, in microseconds. If all of them begin before it, the length of the list.
 fn place_from(former: &[Shown], from: usize, rise: u64) -> usize {
     for place in from..former.len() {
         if rise <= former[place].rise {
@@ -90,8 +80,7 @@ fn place_from(former: &[Shown], from: usize, rise: u64) -> usize {
 
 /// Compares the pulses of a frame with those of the former one at a place, if no marker is known
 /// for the former one. If each pulse rises as long after the frame's marker as in the former frame
-/// after that one's (`keeps_rises`), the frame's marker is known from now on. Else nothing changes,
-/// nor if there is no former frame at the place.
+/// after that one's (`keeps_rises`), the frame's marker is known from now on.
 fn learn_marker(
     session: &Session,
     opened: &Original,
@@ -112,8 +101,7 @@ fn learn_marker(
 
 /// Replaces each marker by what is still known of it after an edit (`still_known`). `changed` is
 /// where the edit changed pulses: how many are before these (`at`), and how many came instead
-/// (`come`). If it is `None`, nothing is known any more. The two counts are how many pulses there
-/// were before the edit, and how many there are now.
+/// (`come`).
 pub fn follow_edit(
     known_markers: &mut Vec<Option<usize>>,
     changed: Option<Place>,
@@ -136,8 +124,7 @@ pub fn follow_edit(
 }
 
 /// What is known after an edit that changed the pulses at `changed`, if the marker `known` was
-/// known before it. `None` if one of these two is `None`, or if the edit may have changed pulses of
-/// the frame (`marker_still_known`).
+/// known before it.
 fn still_known(
     known: Option<usize>,
     changed: Option<Place>,
@@ -155,14 +142,7 @@ fn still_known(
     }
 }
 
-/// The marker of a frame after an edit, if its pulses did not change. The edit took some pulses
-/// away from the place `changed.at` on, and put `changed.come` pulses there; how many it took
-/// follows from the two counts of all pulses. A frame whose 100 pulses are all before the change
-/// keeps its marker. If a frame begins after the pulses that went, its marker moves by as many
-/// places as there are more pulses now, or fewer. The test of that has each number on the side on
-/// which it is added, so that nothing is below 0. `None` for any other frame, since its pulses may
-/// have changed. `None` also if `come` is more than a `u64` holds, since the sums could be too
-/// large for their type, or if the marker is too large (`as_place`).
+/// The marker of a frame after an edit, if its pulses did not change.
 fn marker_still_known(
     marker: usize,
     changed: &Place,

@@ -2,8 +2,7 @@
 
 ghost use Rattle.irig_script.specs.Obey.Run.{IsPlain};
 
-/// A line of a script, without the newline that ends it. `plain` is for proofs alone: no byte is a
-/// newline.
+/// A line of a script, without the newline that ends it.
 #[derive(Drop)]
 pub struct Line {
     pub bytes: Vec<u8>,

@@ -8,8 +8,7 @@ ghost use Rattle.irig_script.specs.Obey.Run.{IsPlain};
 use crate::line::Line;
 use std::alloc::{AllocError, Global};
 
-/// The lines of a script, without their newlines. An empty script has none. Bytes after the last
-/// newline are a line, too. `Err` means that memory ran out.
+/// The lines of a script, without their newlines. An empty script has none.
 pub fn lines_of(alloc: Global, script: &[u8]) -> Result<Vec<Line>, AllocError>
     ensures { IfOk result (λ lines. texts lines.items ≡ lines_of script.now) }
 {
@@ -27,8 +26,7 @@ pub fn lines_of(alloc: Global, script: &[u8]) -> Result<Vec<Line>, AllocError>
     Ok(lines)
 }
 
-/// Adds the last line of a script to `lines`: the `bytes` after the last newline. If there are
-/// none, nothing is added. `Err` means that memory ran out.
+/// Adds the last line of a script to `lines`: the `bytes` after the last newline.
 fn put_last(lines: &mut Vec<Line>, bytes: Vec<u8>) -> Result<(), AllocError>
     requires { IsPlain bytes.items }
     ensures { OnOk result (texts lines.new.items ≡ texts lines.old.items ++ lines_of bytes.items) }

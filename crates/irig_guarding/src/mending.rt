@@ -1,14 +1,4 @@
-//! Repairs that are tried, and kept if they are safe. A repair is an edit, or a group of edits
-//! from `begin` to `end`; the lines between these two are its inner lines. A frame reads well if
-//! nothing is wrong in it. A repair is safe if no frame that read well is lost or becomes wrong,
-//! and each new one is supported by the frames next to it. `opened` is what is known of the
-//! recording. `known_markers` has for each frame of it that read well the marker at which its
-//! pulses are known to rise as they did, or `None`; after an error it is not used. `before` is the
-//! frames that read well before the repair. A `Reason` is why a repair is not kept: `NoRepair` if
-//! it is no edit and no group of edits, `Refused` if the editor refuses a line, `NotSafe` with the
-//! first fault of the frames that it leads to, or `OutOfMemory`. In contracts `floor ≡ None`: no
-//! group is open, and `IsUndone`: all is as it was, and nothing can be redone that could not be.
-//! `Holds` and `Drops`: why the end of a group, and a repair, failed.
+//! Repairs that are tried, and kept if they are safe.
 
 ghost use Rattle.std.specs.Prelude.{◌≡◌, ◌∷◌, ◌++◌, [], ℕ, List, None, IfErr, IfOk, OnErr, OnOk};
 ghost use Rattle.irig_edit.specs.{Session.Calls.Call, Session.Session.work_in};
@@ -33,8 +23,7 @@ use irig_safety::{Original, Shown};
 use std::alloc::Global;
 
 /// Ends the open group if what it led to may stay (`check`), and returns the frames that read well
-/// now. If it may not, the group stays open, and the caller gives it up: `Err` is `NotSafe` with
-/// the first fault then, or `OutOfMemory`. `Refused` only if no group is open.
+/// now.
 fn end_safely(
     alloc: Global,
     session: &mut Session,
@@ -56,11 +45,8 @@ fn end_safely(
     }
 }
 
-/// Obeys a group by its inner lines. If what they do is safe, keeps it, and returns the frames
-/// that read well after it. If not, the group is given up: all is as it was, and nothing can be
-/// redone. `Err` is the reason of the first line that fails (`obey_inner_lines`), or why the group
-/// may not be kept (`end_safely`). Neither `begin` nor `abort` is refused, as no group is open at
-/// first. So what `abort` returns is dropped.
+/// Obeys a group by its inner lines. If what they do is safe, keeps it, and returns the frames that
+/// read well after it.
 fn keep_group_if_safe(
     alloc: Global,
     session: &mut Session,
@@ -99,9 +85,7 @@ fn keep_group_if_safe(
     }
 }
 
-/// Obeys an edit. If it is safe, keeps it, and returns the frames that read well after it. If not,
-/// it is undone for good (`undo_for_good`). `Err` is `Refused` if the editor refuses it
-/// (`obey_edit`), or else why it may not be kept: `NotSafe` or `OutOfMemory` (`check`).
+/// Obeys an edit. If it is safe, keeps it, and returns the frames that read well after it.
 fn keep_edit_if_safe(
     alloc: Global,
     session: &mut Session,
@@ -137,8 +121,7 @@ fn keep_edit_if_safe(
 }
 
 /// Undoes an edit for good: it cannot be redone. An undo alone would leave it to be redone, and a
-/// saved session would have it. A group that is given up leaves nothing to redo, so an empty one
-/// follows. None of the three calls is refused, so what they return is dropped.
+/// saved session would have it.
 fn undo_for_good(session: &mut Session)
     ensures { (edit : SomeCommand) (before : Machine) → IsRepair edit → before.floor ≡ None
         → Obeys edit before Silent session.old → IsUndone before session.new }
@@ -148,10 +131,7 @@ fn undo_for_good(session: &mut Session)
     let _ = session.abort();
 }
 
-/// Obeys a line that is a repair of its own: an edit (`keep_edit_if_safe`). If it is safe, keeps
-/// it, and returns the frames that read well after it. If not, nothing is left of it. Any other
-/// line is `NoRepair`, also one that is not valid or too long. So is a comment, but none comes
-/// here: `try_repair` keeps those.
+/// Obeys a line that is a repair of its own: an edit (`keep_edit_if_safe`).
 fn keep_line_if_safe(
     alloc: Global,
     session: &mut Session,
@@ -186,9 +166,7 @@ fn keep_line_if_safe(
 }
 
 /// Obeys a repair: one line that is an edit (`keep_line_if_safe`), or two lines or more that are a
-/// group, from `begin` to `end` (`keep_group_if_safe`). If it is safe, keeps what it did, and
-/// returns the frames that read well after it. If not, nothing is left of it. `NoRepair` for any
-/// other lines, also for a group that `abort` gives up, or that no line closes, and for no lines.
+/// group, from `begin` to `end` (`keep_group_if_safe`).
 pub fn keep_if_safe(
     alloc: Global,
     session: &mut Session,

@@ -1,11 +1,4 @@
-//! The commands of a repair, obeyed one by one. A repair is an edit, or a group of edits from
-//! `begin` to `end`; the lines between these two are its inner lines. `known_markers` has for each
-//! frame of the recording that read well (nothing was wrong in it) the marker at which its pulses
-//! are known to rise as they did, or `None`. It follows each edit, and is not used after an error.
-//! A `Reason` is why a repair is not kept. Two of them come here: `NoRepair` for a line that a
-//! repair cannot have, and `Refused` if the editor refuses a line. In contracts `StopsAt` and
-//! `StopsIn` say why a line and lines failed, and `IsBeyond` that no group began or ended, and
-//! nothing from before was undone.
+//! The commands of a repair, obeyed one by one.
 
 ghost use Rattle.std.specs.Prelude.{◌≡◌, ◌≢◌, ℕ, List, IfErr, OnErr, OnOk};
 ghost use Rattle.irig_edit.specs.Session.Session.{work_in};
@@ -26,9 +19,6 @@ use irig_lines::Command;
 use irig_script::{Reply, obey_command};
 
 /// Obeys an edit, and lets `known_markers` follow the pulses that it changes (`follow_edit`).
-/// `Refused` if the editor refuses it: then nothing has changed. An edit has no other reply, so the
-/// last case never comes. The place of the edit is found before it is obeyed, since the edit can
-/// change what its address means.
 pub fn obey_edit(
     session: &mut Session,
     known_markers: &mut Vec<Option<usize>>,
@@ -55,7 +45,7 @@ pub fn obey_edit(
 }
 
 /// Obeys an inner line of a group: an edit, which can be `Refused`, or a comment or blank line,
-/// which does nothing. Any other line is `NoRepair`, also one that is not valid or too long.
+/// which does nothing.
 fn obey_inner_line(
     session: &mut Session,
     known_markers: &mut Vec<Option<usize>>,
@@ -75,7 +65,7 @@ fn obey_inner_line(
 }
 
 /// Obeys the command of an inner line of a group if it is an edit (`is_edit`), which can be
-/// `Refused`. Any other is `NoRepair`; that of a comment does not come here (`obey_inner_line`).
+/// `Refused`.
 fn obey_inner_command(
     session: &mut Session,
     known_markers: &mut Vec<Option<usize>>,
@@ -97,9 +87,7 @@ fn obey_inner_command(
     }
 }
 
-/// Obeys the inner lines of a group, up to the first one that fails (`obey_inner_line`). `Err` is
-/// the reason of that line, `Refused` or `NoRepair`. What the lines before it did stays: the caller
-/// gives the group up.
+/// Obeys the inner lines of a group, up to the first one that fails (`obey_inner_line`).
 pub fn obey_inner_lines(
     session: &mut Session,
     known_markers: &mut Vec<Option<usize>>,

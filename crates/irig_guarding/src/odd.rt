@@ -1,9 +1,5 @@
 //! The control functions of frames whose pulses are odd: not as wide as the others of their class
-//! in their frame. The class of a pulse is what its width means. A frame is even if none of its
-//! control functions has an odd pulse. `pulses` is all pulses of a recording, and `seen` its frames
-//! that read well, with nothing wrong in them, in rising order. `odd_of` finds what is odd in one
-//! frame; `odd_among` keeps that of all frames, `even_among` the frames in which it finds nothing.
-//! `Err` means in each function that memory ran out.
+//! in their frame.
 
 ghost use Rattle.std.specs.Prelude.{◌≡◌, ◌++◌, IfOk, OnOk};
 ghost use Rattle.std.specs.List.{flat_map};
@@ -17,7 +13,7 @@ use irig_safety::{Odd, Shown, odd_of};
 use std::alloc::{AllocError, Global};
 
 /// The control functions whose pulses are odd, each with its frame, of all frames `seen`, in their
-/// order (`odd_of`). Empty if all frames are even.
+/// order (`odd_of`).
 pub fn odd_among(
     alloc: Global,
     format: Format,
@@ -61,7 +57,7 @@ fn even_among(
     Ok(even)
 }
 
-/// Adds a frame to `even` if it is even, as the caller found (`is_even`). Else nothing is added.
+/// Adds a frame to `even` if it is even, as the caller found (`is_even`).
 fn put_if_even(even: &mut Vec<Shown>, is_even: bool, frame: Shown) -> Result<(), AllocError>
     ensures { OnOk result (even.new.items ≡ even.old.items ++ even_if is_even frame) }
 {

@@ -1,6 +1,5 @@
 //! What is known of a recording as it was opened: its frames that read well, with nothing wrong in
-//! them, their markers, and its pulses. A marker is the pulse with which a frame begins. `Err`
-//! means that memory ran out.
+//! them, their markers, and its pulses.
 
 ghost use Rattle.std.specs.Prelude.{◌≡◌, IfOk, map};
 ghost use Rattle.std.specs.List.Sorted.{IsNonDecreasingBy};
@@ -17,8 +16,7 @@ use std::alloc::{AllocError, Global};
 /// What is known of a recording by the session that was opened on it, before any repair. That is
 /// its frames that read well, their markers, all pulses, the control functions whose pulses are not
 /// as wide as others in their frame (`odd_among`), and the pulses that are in step and in none of
-/// these frames (`loose_of`). `terms` are by what else repairs are judged:
-/// frames of other recordings, and whether frames may move.
+/// these frames (`loose_of`).
 pub fn original_of(alloc: Global, session: &Session, terms: Terms) -> Result<Original, AllocError>
     ensures { IfOk result (λ opened. opened ≡ original_of terms session.now.state) }
 {
@@ -50,8 +48,7 @@ fn markers_of(alloc: Global, frames: &[Seen]) -> Result<Vec<usize>, AllocError>
     Ok(markers)
 }
 
-/// All pulses of a session, in their order. Neither their rises nor their falls go back from one
-/// pulse to the next. `Err` means that memory ran out.
+/// All pulses of a session, in their order.
 pub fn pulses_of(alloc: Global, session: &Session) -> Result<Vec<Pulse>, AllocError>
     ensures all { IfOk result (λ pulses. pulses.items ≡ session.now.state.pulses) }
     ensures rising { IfOk result (λ pulses.

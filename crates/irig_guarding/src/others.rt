@@ -1,12 +1,4 @@
-//! The frames of another recording of the same code that say something of this one. They have to
-//! read well, with nothing wrong in them, and to be backed: a frame next to them agrees with them,
-//! so that damage did not make them alone. Two frames agree if they are near enough for their
-//! distance to say how many frame periods it is, and their times are as many apart. A journal is
-//! the history of a session, which a dump can have. A pulse is odd if it is not as wide as the
-//! others of its class in its frame, and a frame is even if no pulse of a control function in it is
-//! odd. In contracts `dump_parts` is what the bytes of a dump say of a wire, `Adds` that the frames
-//! of it that say something were added, and `IsUnadded` that it was not opened for this fault, or
-//! memory ran out.
+//! The frames of another recording of the same code that say something of this one.
 
 ghost use Rattle.std.specs.Prelude.{◌≡◌, ◌≤◌, ◌^◌, ℕ, Err, List, Option, length, Ok, IfErr};
 ghost use Rattle.std.specs.Prelude.{IfSome, OnOk};
@@ -28,11 +20,6 @@ use irig_safety::{Terms, backed};
 use std::alloc::{AllocError, Global};
 
 /// Adds to `terms` the frames of another recording that say something of this one (`add_backed`).
-/// `recording` and `journal`, the text of its journal if it has one, are what was read of its dump.
-/// A dump has at most 2^28 bytes, so its journal has no more. `format` is that in which frames are
-/// read. `Dump` if it cannot be opened as a session, `OutOfMemory` if memory runs out after that.
-/// No other fault comes. After an error `terms` is not used. `memory`: memory runs out for the
-/// session only if no fault of the dump comes before that.
 pub fn add_frames(
     alloc: Global,
     recording: Recording,
@@ -60,9 +47,7 @@ pub fn add_frames(
     }
 }
 
-/// Adds to `terms` two lists of the frames of a session that are backed (`backed`). The first is
-/// picked from all that read well. The second is picked from the even ones alone, so there an even
-/// frame has to be backed by the even one before or after it. `Err` means that memory ran out.
+/// Adds to `terms` two lists of the frames of a session that are backed (`backed`).
 fn add_backed(
     alloc: Global,
     session: &Session,

@@ -1,10 +1,5 @@
 //! Where a command of a repair changes the pulses of a session, so that what is known of other
-//! pulses can be kept. Each function returns the place of one command, if it is obeyed; if it is
-//! refused, the place means nothing, and is not used. Addresses count pulses from 1, with 0 for
-//! none: `ends` gives the first and the last pulse of a range, and `number_at` that of an address.
-//! So one less is how many pulses are before it. A command with a 0 is refused: `saturating_sub`
-//! only keeps that from being an overflow. `Became` in a contract: pulses from a place on became
-//! that many others, and all others are as they were.
+//! pulses can be kept.
 
 ghost use Rattle.std.specs.Prelude.{◌≡◌, ℕ, ℤ, IfSome, length};
 ghost use Rattle.irig_codes.specs.declared.width.Element.{Element as SomeElement};
@@ -21,7 +16,7 @@ use irig_lines::{Address, Command, Range, Time};
 use irig_script::{ends, number_at, time};
 
 /// Where pulses become others: how many pulses are before them (`at`), and how many come instead
-/// (`come`). How many go is not kept: it follows from how many there are before and after.
+/// (`come`).
 #[derive(Clone, Copy)]
 pub struct Place {
     pub at: usize,
@@ -60,8 +55,6 @@ fn place_of_delete(session: &Session, range: &Range) -> Place
 }
 
 /// The place of pulses that move: as many come as go, those from `first` to `last`, both included.
-/// Their count is taken as a `u128`, so that adding 1 is no overflow. It is 0 if `last` is before
-/// `first`, but such a command is refused.
 fn place_of_shift(session: &Session, range: &Range) -> Place
     ensures { (by : ℤ) (new : Machine) → Obeys (Command.Shift range.now by) session.now Silent new
         → Became result.at result.come session.now.state.pulses new.state.pulses }
@@ -110,9 +103,7 @@ fn place_of_force(session: &Session, address: &Address) -> Place
     }
 }
 
-/// The place of a pulse that is inserted and ends at `to`: one comes, and none goes. `find` counts
-/// the pulses that rise up to a time. Those that rise up to `to` are before the new one: if one of
-/// them rose during it, the two would touch, and the command is refused then.
+/// The place of a pulse that is inserted and ends at `to`: one comes, and none goes.
 fn place_of_insert(session: &Session, to: &Time) -> Place
     ensures { (from : SomeTime) (new : Machine)
         → Obeys (Command.Insert from to.now) session.now Silent new
@@ -125,8 +116,7 @@ fn place_of_insert(session: &Session, to: &Time) -> Place
 }
 
 /// The place of frames that are generated from `start` on. The pulses that rise before `start` stay
-/// before them (`rising_before`). A hundred pulses come for each of `frames`, as a `u128`, so that
-/// the product is no overflow.
+/// before them (`rising_before`).
 fn place_of_regen(session: &Session, start: &Time, frames: u64) -> Place
     ensures { (moment : MomentView) (control : ℕ) (new : Machine)
         → Obeys (Command.Regen start.now frames moment control) session.now Silent new
@@ -138,8 +128,7 @@ fn place_of_regen(session: &Session, start: &Time, frames: u64) -> Place
     }
 }
 
-/// How many pulses rise before a time, in microseconds; 0 at time 0. `find` counts those that rise
-/// up to a time, also at it, so it is asked for the microsecond before.
+/// How many pulses rise before a time, in microseconds; 0 at time 0.
 fn rising_before(session: &Session, time: u64) -> usize
     ensures { result ≡ length (rising_before time session.now.state.pulses) }
 {

@@ -1,8 +1,4 @@
-//! The script that is printed: the lines that are kept, and the rest as comments. All is added to
-//! `out`. A frame reads well if nothing is wrong in it. Each function fails only if memory runs
-//! out: then a part can be in `out`. In contracts `unlines` is lines, each with a newline (10)
-//! after it, `IsRemark` that a line is a comment or blank, `IsRemarkOf` that it is what is printed
-//! of another line, and `Shows` that all this was printed of a repair.
+//! The script that is printed: the lines that are kept, and the rest as comments.
 
 ghost use Rattle.std.specs.Prelude.{◌≡◌, ◌++◌, ◌∷◌, [], ℕ, List, OnOk, Some};
 ghost use Rattle.std.specs.List.{AllByRecursion};
@@ -33,7 +29,7 @@ fn put_line(out: &mut Vec<u8>, line: &[u8]) -> Result<(), AllocError>
 }
 
 /// Prints the comment that there is nothing to go by, if no frame of the recording reads well:
-/// `fine` is those that do, as it was opened. If there are some, nothing is printed.
+/// `fine` is those that do, as it was opened.
 pub fn put_head(out: &mut Vec<u8>, fine: &[Shown]) -> Result<(), AllocError>
     ensures { OnOk result (out.new.items ≡ out.old.items ++ unlines (head_lines fine.now)) }
 {
@@ -47,8 +43,7 @@ pub fn put_head(out: &mut Vec<u8>, fine: &[Shown]) -> Result<(), AllocError>
     }
 }
 
-/// Prints lines as they are, each with a newline after it. None of them has a newline in it: that
-/// is so of each `Line`, and `plain` says it.
+/// Prints lines as they are, each with a newline after it.
 fn put_lines(out: &mut Vec<u8>, lines: &[Line]) -> Result<(), AllocError>
     ensures text { OnOk result (out.new.items ≡ out.old.items ++ unlines (texts lines.now)) }
     ensures plain { AllByRecursion IsPlain (texts lines.now) }
@@ -59,8 +54,7 @@ fn put_lines(out: &mut Vec<u8>, lines: &[Line]) -> Result<(), AllocError>
     Ok(())
 }
 
-/// Prints a line as a comment, and a newline. A comment or blank line is printed as it is, any
-/// other line after a number sign, and cut (`put_as_comment`).
+/// Prints a line as a comment, and a newline.
 fn put_comment(out: &mut Vec<u8>, line: &Line) -> Result<(), AllocError>
     ensures { OnOk result ((remark : List ℕ) × IsRemark remark
         × IsRemarkOf line.now.bytes.items remark
@@ -74,7 +68,7 @@ fn put_comment(out: &mut Vec<u8>, line: &Line) -> Result<(), AllocError>
 }
 
 /// Prints a number sign, a space, the first 900 bytes of a line (all, if it has fewer) and a
-/// newline. The line is no comment, nor blank: `put_comment` prints those.
+/// newline.
 fn put_as_comment(out: &mut Vec<u8>, line: &Line) -> Result<(), AllocError>
     requires { Asks command.Nothing line.now.bytes.items → ⊥ }
     ensures { OnOk result ((remark : List ℕ) × IsRemark remark
@@ -98,8 +92,7 @@ fn put_comments(out: &mut Vec<u8>, lines: &[Line]) -> Result<(), AllocError>
     Ok(())
 }
 
-/// Prints a repair: its lines as they are if it was kept, else as `put_dropped` does. `dropped` is
-/// why it was dropped, `None` if it was kept.
+/// Prints a repair: its lines as they are if it was kept, else as `put_dropped` does.
 pub fn put_repair(
     out: &mut Vec<u8>,
     repair: &[Line],

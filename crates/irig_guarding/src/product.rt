@@ -1,4 +1,4 @@
-//! What a run under guard writes, and why it is broken off. A journal is the history of a session.
+//! What a run under guard writes, and why it is broken off.
 
 use irig_script::Status;
 use irig_vcd::VcdFault;
@@ -17,7 +17,7 @@ pub enum Product {
 
 /// How a run under guard ended: whether each repair was kept, how many frames have a control
 /// function then that is not in the recording, and whether there was a frame to go by: one of the
-/// recording read well, or one does then. If not, nothing was kept, and nothing is written.
+/// recording read well, or one does then.
 #[derive(Clone, Copy)]
 pub struct Kept {
     pub status: Status,

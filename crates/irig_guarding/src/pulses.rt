@@ -1,15 +1,4 @@
-//! Whether the pulses of the frames are where they may be. A frame reads well if nothing is wrong
-//! in it. `opened` is what is known of the recording. `former` is its frames that read well, at the
-//! places where they are now if frames may move. Pulses rise as they did if each is as long after
-//! its frame's marker as in the recording; `known_markers` has for each former frame the marker at
-//! which its pulses are known to do so, or `None`. Markers, elements and places in lists count from
-//! 0. A former frame is passed if the frames that were looked at have one that begins when it does;
-//! `passed` counts these, so it is also the place in `former` of the next one. A pulse is an anchor
-//! if it rises where the recording has one, or is a gap of it turned over. The faults: `Lost` of a
-//! former frame if no frame begins when it did; `Moved` if one does, and its pulses do not rise as
-//! they did; `Misplaced` of a new frame with a pulse that is neither an anchor nor where anchors
-//! have it, or, if no frame of the recording reads well, of one with fewer than 60 anchors. In
-//! contracts `with_frames` is what is known of the recording, with `former` as its frames.
+//! Whether the pulses of the frames are where they may be.
 
 ghost use Rattle.std.specs.Prelude.{◌≡◌, ◌↔◌, ◌+◌, ◌<◌, ◌≤◌, ◌∷◌, List, IsTrue, None, Option, Some};
 ghost use Rattle.std.specs.Prelude.{IfErr, IfOk, OnErr, OnOk, drop, get_or, length, slice_get};
@@ -30,12 +19,7 @@ use irig_edit::Session;
 use irig_safety::{Fault, Original, Shown, Witnesses, frame_at, near_in};
 
 /// Whether the pulses of each of `frames`, those that read well now, are where they may be. If a
-/// frame begins when a former one does, they have to rise as that one's did. Else they have to be
-/// where the recording supports them. If not, `Err` is the first fault: `Lost`, `Moved` or
-/// `Misplaced` (`judge_next`). Both lists are in rising order, so one pass over both is enough. A
-/// frame whose pulses are known to rise as they did is passed without a look at them
-/// (`is_unmoved`). Former frames after the last of `frames` are not looked for: `check_safe` did
-/// that before.
+/// frame begins when a former one does, they have to rise as that one's did.
 pub fn check_rises(
     session: &Session,
     opened: &Original,
@@ -66,8 +50,7 @@ pub fn check_rises(
 }
 
 /// Whether a frame has the fields and the rise of the former one at a place, and its pulses are
-/// known to rise as those of the former one (`is_known`). False if they rise so but that is not
-/// known, and if no former frame is at the place.
+/// known to rise as those of the former one (`is_known`).
 fn is_unmoved(former: &[Shown], known_markers: &[Option<usize>], place: usize, frame: &Seen) -> bool
     ensures same { IsTrue result → slice_get former.now place ≡ Some frame.now.shown }
     ensures known { IsTrue result → get_or known_markers.now place None ≡ Some frame.now.marker }
@@ -78,14 +61,7 @@ fn is_unmoved(former: &[Shown], known_markers: &[Option<usize>], place: usize, f
     is_known(known_markers, place, frame.marker)
 }
 
-/// Judges one more frame by the next former one. `Ok` has how many former frames are passed then,
-/// `Err` the fault. There are three cases. If the next former frame begins later, or there is none,
-/// the frame is new (`judge_new_frame`), and no former one is passed. If the next one begins
-/// earlier, it is `Lost`. If both begin at the same time, the pulses of the frame have to rise as
-/// those of the former one (`rises_as_former`): then the former one is passed, else the frame is
-/// `Moved`. The former frames next to a new one are the two before the place `passed` and the two
-/// from it on (`near_in`). In the clauses `rest` is any frames after `frame`, and `found` their
-/// fault, if they have one, when former frames are compared from some place on (`PulsesAt`).
+/// Judges one more frame by the next former one.
 fn judge_next(
     session: &Session,
     opened: &Original,
@@ -123,10 +99,7 @@ fn judge_next(
     }
 }
 
-/// Judges a new frame: it begins when no former one does. `Ok` if each pulse of it is an anchor, or
-/// where the anchors next to it have it (`are_placed`). It has `passed` as it is, since no former
-/// frame is passed by a new one. Else `Misplaced`, with the frame. `near` is the former frames next
-/// to it.
+/// Judges a new frame: it begins when no former one does.
 fn judge_new_frame(
     session: &Session,
     opened: &Original,
@@ -144,8 +117,7 @@ fn judge_new_frame(
 }
 
 /// Whether most pulses of each of `frames`, those that read well now, are anchors: 60 or more of
-/// its 100 (`is_rooted`). If not, `Misplaced` with the first frame that has fewer. `Ok` for no
-/// frames.
+/// its 100 (`is_rooted`).
 pub fn check_rooted(session: &Session, opened: &Original, frames: &[Seen]) -> Result<(), Fault>
     ensures rooted { OnOk result
         (AllByRecursion (IsRooted opened.now session.now.state) frames.now) }
@@ -161,8 +133,7 @@ pub fn check_rooted(session: &Session, opened: &Original, frames: &[Seen]) -> Re
     Ok(())
 }
 
-/// Whether the pulses of a frame rise as those of the former one at a place did. True if that is
-/// known (`is_known`); else they are compared (`keeps_rises`).
+/// Whether the pulses of a frame rise as those of the former one at a place did.
 fn rises_as_former(
     session: &Session,
     opened: &Original,
@@ -181,9 +152,7 @@ fn rises_as_former(
 }
 
 /// Whether the pulses of a frame rise as those of a former one did: each as long after its frame's
-/// marker. The frames are given by their markers. Frames that read well have all 100 pulses, in
-/// rising order. In others a pulse that is not there would count as rising at 0, before the marker:
-/// so the subtractions saturate.
+/// marker. The frames are given by their markers.
 pub fn keeps_rises(
     session: &Session,
     opened: &Original,

@@ -1,6 +1,4 @@
-//! The frames of a session that read well: they are read, and nothing is wrong in them. Here they
-//! are listed without their markers (`seen_frames` lists them with these). A marker is the pulse
-//! with which a frame begins. Each function fails only if memory runs out.
+//! The frames of a session that read well: they are read, and nothing is wrong in them.
 
 ghost use Rattle.std.specs.Prelude.{◌≡◌, ◌≤◌, ◌-◌, ◌++◌, length, slice_get, Some, IfOk, OnOk};
 ghost use Rattle.irig_index.specs.declared.record.Record.{Record};
@@ -24,7 +22,7 @@ pub fn fine_frames(alloc: Global, session: &Session) -> Result<Vec<Shown>, Alloc
 }
 
 /// Adds what the frame of a number, from 1, shows to `shown`, if it reads well (`put_verdict`);
-/// else nothing. The pulses of a session, and so the markers of its frames, count from 1, too.
+/// else nothing.
 fn put_frame(shown: &mut Vec<Shown>, session: &Session, number: usize) -> Result<(), AllocError>
     requires { (1 ≤ number) × (number ≤ length (frames_of session.now.state)) }
     ensures { (r : Record) → slice_get (frames_of session.now.state) (number - 1) ≡ Some r
@@ -37,7 +35,7 @@ fn put_frame(shown: &mut Vec<Shown>, session: &Session, number: usize) -> Result
 }
 
 /// Adds what a frame shows that begins at `rise`, in microseconds, to `shown`, if it reads well: by
-/// its `verdict` it is read, and nothing is wrong (`Fine`). Else nothing is added.
+/// its `verdict` it is read, and nothing is wrong (`Fine`).
 fn put_verdict(shown: &mut Vec<Shown>, rise: u64, verdict: Verdict) -> Result<(), AllocError>
     ensures { OnOk result (shown.new.items ≡ shown.old.items ++ shown_at rise verdict) }
 {

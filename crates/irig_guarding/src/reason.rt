@@ -1,6 +1,4 @@
-//! Why a repair is not kept. A repair is an edit, or a group of edits from `begin` to `end`. It is
-//! safe if no frame with nothing wrong is lost or becomes wrong by it, and each new one is
-//! supported by the frames next to it.
+//! Why a repair is not kept.
 
 use irig_edit::Refusal;
 use irig_safety::Fault;

@@ -1,5 +1,4 @@
-//! Why a repair is not kept, as a comment that is added to `out`. Each function fails only if
-//! memory runs out.
+//! Why a repair is not kept, as a comment that is added to `out`.
 
 ghost use Rattle.std.specs.Prelude.{◌≡◌, ◌++◌, ◌∷◌, [], OnOk};
 ghost use Rattle.irig_guarding.specs.Reasons.{fault_text, frame_text, reason_line};
@@ -22,8 +21,7 @@ pub fn put_reason(out: &mut Vec<u8>, reason: Reason) -> Result<(), AllocError>
     Ok(())
 }
 
-/// Prints the reason itself, without `# not kept: ` and the newline. A refusal is printed with its
-/// name (`put_refusal`), a fault with its frame (`put_fault`).
+/// Prints the reason itself, without `# not kept: ` and the newline.
 fn put_text(out: &mut Vec<u8>, reason: Reason) -> Result<(), AllocError>
     ensures { OnOk result (out.new.items ≡ out.old.items ++ reason_text reason) }
 {
@@ -36,7 +34,7 @@ fn put_text(out: &mut Vec<u8>, reason: Reason) -> Result<(), AllocError>
 }
 
 /// Prints why the frames would not be safe: the frame that is at fault, and what would become of
-/// it. `Alone`, `Removed` and `Unjudged` have no frame.
+/// it.
 fn put_fault(out: &mut Vec<u8>, fault: Fault) -> Result<(), AllocError>
     ensures { OnOk result (out.new.items ≡ out.old.items ++ fault_text fault) }
 {

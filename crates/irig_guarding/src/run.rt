@@ -1,12 +1,4 @@
-//! A run under guard on a dump, from the bytes that come in to those that go out. Under guard,
-//! commands that are not safe by `terms` are left out: these have frames of other recordings of the
-//! same code, and say whether frames of the recording may move. The shelf is where the text of the
-//! track is written, as a file. In contracts its `label` sets it apart from other shelves, and
-//! never changes; `since` is what its own contract says of a state of it and each later one; `desk`
-//! is what is printed and what the shelf has, and `Puts` which texts were written to the shelf and
-//! how many writes failed. A journal is the history of a session, which a dump can have. `Kept` is
-//! how a run ended: whether all of the script was accepted, and how many frames have control
-//! functions that are not in the recording. `floor ≡ None` in a contract: no group is open.
+//! A run under guard on a dump, from the bytes that come in to those that go out.
 
 ghost use Rattle.std.specs.Prelude.{◌≡◌, ◌≤◌, ◌^◌, ◌==◌, ℕ, Err, List, None, Option, length, Ok};
 ghost use Rattle.std.specs.Prelude.{IfOk, IfSome, OnErr, OnOk, [], ◌∷◌, if◌then◌else◌};
@@ -31,10 +23,7 @@ use std::alloc::{AllocError, Global};
 use std::io::{Read, Write};
 
 /// Opens a dump by what was read of it, its recording and the text of its journal (at most 2^28
-/// bytes, as a dump), and runs a proposed script on it under guard. The script that is accepted is
-/// printed to `out`, and what `product` asks for, nothing, the track or the session, is written to
-/// the shelf. `Err` is `Dump` if the dump cannot be opened: then the script is not read. Else it is
-/// the fault of the step that failed, as in `guard_session`.
+/// bytes, as a dump), and runs a proposed script on it under guard.
 pub fn guard_on_parts<R: Read, W: Write, S: Shelf>(
     alloc: Global,
     recording: Recording,
@@ -68,10 +57,7 @@ pub fn guard_on_parts<R: Read, W: Write, S: Shelf>(
 /// Runs a proposed script on a session under guard, prints the script that is accepted to `out`,
 /// and writes what `product` asks for to the shelf, but nothing if there was no frame to go by.
 /// That is what the printed script leaves: a repair that is tried takes away what can be redone, so
-/// the text from before is kept, and written if no step was made. Returns how the run ended
-/// (`Kept`). The first step that fails ends it: `ReadFailed` for the script, `OutOfMemory` for that
-/// text or the run, `PrintFailed` for `out`, of which a part can be printed then, and `WriteFailed`
-/// for the shelf. The error of a call says no more, so it is dropped.
+/// the text from before is kept, and written if no step was made.
 pub fn guard_session<R: Read, W: Write, S: Shelf>(
     alloc: Global,
     session: &mut Session,
@@ -111,8 +97,7 @@ pub fn guard_session<R: Read, W: Write, S: Shelf>(
 }
 
 /// The text of a session before repairs are tried, with its journal, if it is to be written and
-/// something can be redone: the first edit that is tried takes that away. `Err` means that memory
-/// ran out.
+/// something can be redone: the first edit that is tried takes that away.
 fn text_before(session: &Session, product: Product) -> Result<Option<Vec<u8>>, AllocError>
     ensures { IfOk result (λ kept. IsKept product session.now (bytes_of kept)) }
 {
@@ -124,7 +109,7 @@ fn text_before(session: &Session, product: Product) -> Result<Option<Vec<u8>>, A
 }
 
 /// The text that was kept before repairs were tried, if they made no step: if as many lead back as
-/// did then (`steps`). If they made one, none.
+/// did then (`steps`).
 fn text_if_unmade(session: &Session, steps: usize, before: Option<Vec<u8>>) -> Option<Vec<u8>>
     ensures { bytes_of result
         ≡ if length session.now.past == steps then bytes_of before else None }
@@ -136,8 +121,7 @@ fn text_if_unmade(session: &Session, steps: usize, before: Option<Vec<u8>>) -> O
     }
 }
 
-/// Writes what `product` asks for (`write_product`) if there was a frame to go by. If not, nothing
-/// is written.
+/// Writes what `product` asks for (`write_product`) if there was a frame to go by.
 fn write_if_judged<S: Shelf>(
     session: &Session,
     judged: bool,
@@ -160,7 +144,7 @@ fn write_if_judged<S: Shelf>(
 
 /// Writes what `product` asks for of a session to the shelf: nothing, its track, or its track with
 /// the journal. If `unmade` is the text of that as it was before repairs were tried, that is
-/// written. `Err` means that the write failed; none is made for nothing.
+/// written.
 fn write_product<S: Shelf>(
     session: &Session,
     unmade: Option<Vec<u8>>,
@@ -183,8 +167,7 @@ fn write_product<S: Shelf>(
     }
 }
 
-/// Writes a text to the shelf; `Err` means that this failed. How many bytes it has, which `put`
-/// returns, is not needed.
+/// Writes a text to the shelf; `Err` means that this failed.
 fn write<T: Text, S: Shelf>(text: &mut T, shelf: &mut S) -> Result<(), ShelfFault>
     ensures ok { OnOk result (Puts (S.known shelf.old) (S.known shelf.new)
         (T.rest text.old ∷ []) 0) }

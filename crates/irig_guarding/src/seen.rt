@@ -1,7 +1,4 @@
-//! The frames of a session that read well: they are read, and nothing is wrong in them. `Shown` of
-//! irig_safety is what such a frame shows: its rise, in microseconds, and its fields. `Seen` is the
-//! same with the frame's marker, the pulse with which it begins. A function with a `Result` fails
-//! only if memory runs out.
+//! The frames of a session that read well: they are read, and nothing is wrong in them.
 
 ghost use Rattle.std.specs.Prelude.{◌≡◌, ◌≤◌, ◌-◌, ◌++◌, length, map, slice_get, Some, IfOk, IsTrue};
 ghost use Rattle.std.specs.Prelude.{OnOk};
@@ -50,7 +47,7 @@ pub fn seen_frames(alloc: Global, session: &Session) -> Result<Vec<Seen>, AllocE
 }
 
 /// What the frames `seen`, all of a session that read well, show without their markers
-/// (`shown_among`). The session is for the contract alone: it says which frames these are.
+/// (`shown_among`).
 pub fn shown_of(alloc: Global, session: &Session, seen: &[Seen]) -> Result<Vec<Shown>, AllocError>
     requires { seen.now ≡ seen_frames session.now.state }
     ensures { IfOk result (λ shown. shown.items ≡ fine_frames session.now.state) }
@@ -71,8 +68,7 @@ fn shown_among(alloc: Global, seen: &[Seen]) -> Result<Vec<Shown>, AllocError>
 }
 
 /// Whether `frame` has the same fields and the same rise as the frame at a place, from 0, of the
-/// list `former`, earlier frames (`is_same`). False if the list has none there. The contract says
-/// only what true means: a caller that gets false judges the frame.
+/// list `former`, earlier frames (`is_same`). False if the list has none there.
 pub fn is_as_before(former: &[Shown], place: usize, frame: &Seen) -> bool
     ensures { IsTrue result → slice_get former.now place ≡ Some frame.now.shown }
 {
@@ -83,7 +79,6 @@ pub fn is_as_before(former: &[Shown], place: usize, frame: &Seen) -> bool
 }
 
 /// Adds the frame of a number, from 1, to `seen`, if it reads well (`put_verdict`); else nothing.
-/// The pulses of a session count from 1, too, so 1 is taken off its marker.
 fn put_frame(seen: &mut Vec<Seen>, session: &Session, number: usize) -> Result<(), AllocError>
     requires { (1 ≤ number) × (number ≤ length (frames_of session.now.state)) }
     ensures { (r : Record) → slice_get (frames_of session.now.state) (number - 1) ≡ Some r
@@ -96,8 +91,7 @@ fn put_frame(seen: &mut Vec<Seen>, session: &Session, number: usize) -> Result<(
 }
 
 /// Adds a frame that begins at `rise`, in microseconds, to `seen`, if it reads well: by its
-/// `verdict` it is read, and nothing is wrong (`Fine`). Else nothing is added. Its marker counts
-/// from 0.
+/// `verdict` it is read, and nothing is wrong (`Fine`).
 fn put_verdict(
     seen: &mut Vec<Seen>,
     rise: u64,

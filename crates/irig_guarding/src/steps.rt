@@ -1,7 +1,4 @@
-//! Whether the loose pulses of the recording are still in their places. A pulse is loose if it is
-//! in step with those next to it and in no frame of the recording that read well. Another is in its
-//! place if it rises when it did, to a tenth of an interval, or falls then. `time` is when a loose
-//! pulse rose, in microseconds. Pulses of a session count from 1.
+//! Whether the loose pulses of the recording are still in their places.
 
 ghost use Rattle.std.specs.Prelude.{◌≡◌, IfErr, IsTrue, OnErr, OnOk, true};
 ghost use Rattle.irig_safety.specs.InStep.{has_place};
@@ -10,8 +7,7 @@ ghost use Rattle.irig_guarding.specs.Steps.{AreInPlace, GoneFrom, IsGoneBy, Step
 use irig_edit::Session;
 use irig_safety::{Fault, Original, is_in_place};
 
-/// Whether each loose pulse of the recording is in its place. If not, `Removed` with the first that
-/// is not.
+/// Whether each loose pulse of the recording is in its place.
 pub fn check_steps(session: &Session, opened: &Original) -> Result<(), Fault>
     ensures stay { OnOk result (StepsStay opened.now session.now.state) }
     ensures gone { OnErr result (StepsStay opened.now session.now.state → ⊥) }
@@ -21,7 +17,7 @@ pub fn check_steps(session: &Session, opened: &Original) -> Result<(), Fault>
 }
 
 /// Whether a pulse takes the place of each one that rose at one of `times`, which are in rising
-/// order. If not, `Removed` with the first of them.
+/// order.
 fn check_times(session: &Session, times: &[u64]) -> Result<(), Fault>
     ensures stay { OnOk result (AreInPlace session.now.state times.now) }
     ensures gone { OnErr result (AreInPlace session.now.state times.now → ⊥) }
@@ -37,11 +33,7 @@ fn check_times(session: &Session, times: &[u64]) -> Result<(), Fault>
 }
 
 /// Whether a pulse of the session takes the place of one that rose at a time. The number `next` is
-/// looked at first, to save a search: loose pulses often follow one another. It becomes the number
-/// after the pulse that was found; the answer does not depend on it. Then the last pulse is looked
-/// at that rises a tenth of an interval after the time at most, and the last one that rises before
-/// it, which is the only one that can fall then. If it is none of these, all are looked at, which
-/// comes once in a repair at most, since that is dropped then.
+/// looked at first, to save a search: loose pulses often follow one another.
 fn has_place(session: &Session, time: u64, next: &mut usize) -> bool
     ensures { result ≡ has_place session.now.state.format session.now.state.pulses time }
 {
@@ -62,7 +54,7 @@ fn has_place(session: &Session, time: u64, next: &mut usize) -> bool
 }
 
 /// Whether the pulse with a number takes the place of one that rose at a time. False if there is no
-/// such pulse. The contract says only what true means: then one of all pulses is.
+/// such pulse.
 fn takes_place(session: &Session, number: usize, time: u64) -> bool
     ensures { IsTrue result
         → has_place session.now.state.format session.now.state.pulses time ≡ true }
