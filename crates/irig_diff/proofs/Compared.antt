@@ -3,7 +3,7 @@ use Rattle.std.proofs.Common.{◌≡◌, ℕ, List, Option, Some, None, ap, sym,
 use Rattle.irig_codes.specs.Format.{FormatView}
 use Rattle.irig_diff.specs.Patches.{PrintsIfRoom, PrintsText, text_between}
 use Rattle.irig_comments.specs.{Framed.framed, Commented.commented_text}
-use Rattle.irig_diff.specs.Ending.{Held, Obeys}
+use Rattle.irig_diff.specs.{Ending.Obeys, Unread.FailsForItself, Unread.Held}
 use Rattle.irig_difference.specs.PatchText.{patch_text}
 use Rattle.irig_recording.specs.Recording.{RecordingView}
 use Rattle.irig_files.specs.Tracks.{Says, Unreadable, name_in}
@@ -38,3 +38,12 @@ obeyed held unread chosen b a old new (ending.Unread path fault) x y p = elim p.
   | inl first ↦ (inl (inl (ap (λ z. z.now) first), p.1), p.2)
   | inr second ↦ (inl (inr (ap (λ z. z.now) second), p.1), p.2)
 ]
+
+-- after both tracks were read
+pub read_both : (held : Held) (unread : Unreadable) (chosen : Settings) (b a : RecordingView) (e : Ending)
+    → Says chosen.window (held chosen.before.now) (name_in chosen.wire) b → Says chosen.window (held chosen.after.now) (name_in chosen.wire_after) a
+    → FailsForItself held unread chosen e
+read_both held unread chosen b a (ending.Compared same) x y = tt
+read_both held unread chosen b a ending.Unprinted x y = tt
+read_both held unread chosen b a (ending.Usage error) x y = tt
+read_both held unread chosen b a (ending.Unread path fault) x y = inr (b, a, x, y)

@@ -1,23 +1,16 @@
 -- What the program does for the words of its command line: from two files to the patch that is
 -- printed. This project's own.
-use Rattle.std.specs.Prelude.{◌≡◌, ◌↔◌, ◌⊎◌, Bool, true, ℕ, List, Option, Ok, Err}
+use Rattle.std.specs.Prelude.{◌≡◌, ◌↔◌, Bool, true, ℕ, List, Option, Ok, Err}
 use Rattle.std.specs.Io.KnownBytes.{Appends}
 use Rattle.clap.specs.Words.{Text}
 use Rattle.irig_recording.specs.Recording.{RecordingView}
 use Rattle.irig_diff.specs.declared.ending.Ending.TheVariants.{Usage, Unread, Compared}
 use Rattle.irig_diff.specs.declared.ending.Ending.TheVariants.{Unprinted}
 use Rattle.irig_diff.specs.{Printing.AppendsFront, Settings.Reads}
-use Rattle.irig_files.specs.Tracks.{HasFault, Says, Unreadable, name_in}
+use Rattle.irig_files.specs.Tracks.{Says, Unreadable, name_in}
 use Rattle.irig_diff.specs.declared.chosen.Settings.{Settings}
 use Rattle.irig_diff.specs.declared.ending.Ending.{Ending}
-use Rattle.irig_files.specs.declared.track.TrackFault.{TrackFault}
-use Rattle.irig_files.specs.declared.track.TrackFault.TheVariants.{File}
-use Rattle.irig_files.specs.declared.dump_file.DumpFileFault.TheVariants.{OutOfMemory}
-use Rattle.irig_diff.specs.Patches.{text_between}
-
--- what the files hold, by their paths
-abbrev pub Held : Type 0
-Held = List ℕ → Option (List ℕ)
+use Rattle.irig_diff.specs.{Patches.text_between, Unread.Held, Unread.IsUncompared}
 
 -- the patch between the tracks of the settings, or windows of them, was printed, and they are the
 -- same or not
@@ -37,22 +30,6 @@ pub record Breaks (held : Held) (chosen : Settings) (old new : Option (List ℕ)
   pub of_before : Says chosen.window (held chosen.before.now) (name_in chosen.wire) before
   pub of_after : Says chosen.window (held chosen.after.now) (name_in chosen.wire_after) after
   pub printed : AppendsFront old new (text_between chosen.frames before after)
-
--- a track of the settings has this fault
-abbrev pub HasFaultAt : Held → Unreadable → Settings → List ℕ → TrackFault → Type 0
-HasFaultAt held unread chosen path fault =
-    ((path ≡ chosen.before.now)
-    × HasFault chosen.window (held chosen.before.now) (unread chosen.before.now)
-    (name_in chosen.wire) fault)
-    ⊎ ((path ≡ chosen.after.now)
-    × HasFault chosen.window (held chosen.after.now) (unread chosen.after.now)
-    (name_in chosen.wire_after) fault)
-
--- the same; or memory ran out for the patch between the tracks
-abbrev pub IsUncompared : Held → Unreadable → Settings → List ℕ → TrackFault → Type 0
-IsUncompared held unread chosen path fault =
-    (((path ≡ chosen.before.now) ⊎ (path ≡ chosen.after.now)) × (fault ≡ File OutOfMemory))
-    ⊎ HasFaultAt held unread chosen path fault
 
 -- the tracks of the settings were compared; or one was not read, and nothing was printed
 abbrev pub Obeys : Held → Unreadable → Settings → Option (List ℕ) → Option (List ℕ) → Ending

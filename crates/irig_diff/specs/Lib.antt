@@ -6,3 +6,4 @@ pub mod Patches
 pub mod Printing
 pub mod Settings
 pub mod Statuses
+pub mod Unread

@@ -3,7 +3,7 @@
 ghost use Rattle.std.specs.Prelude.{◌≡◌, map, option_map, string_bytes};
 ghost use Rattle.irig_diff.specs.Patches.{PrintsIfRoom, PrintsText, text_between};
 ghost use Rattle.irig_comments.specs.{Framed.framed, Commented.commented_text};
-ghost use Rattle.irig_diff.specs.Ending.{EndsBy, Obeys};
+ghost use Rattle.irig_diff.specs.{Ending.EndsBy, Ending.Obeys, Unread.FailsForItself};
 ghost use Rattle.irig_difference.specs.PatchText.{patch_text};
 ghost use Rattle.irig_vcd.specs.Answer.{name_of};
 
@@ -59,8 +59,9 @@ fn compare_with_block<'a, D: Disk, W: Write>(
     out: &mut W,
     block: &mut Vec<u8>,
 ) -> Ending<'a>
-    ensures { Obeys (D.held disk.now) (D.unread disk.now) chosen.now (W.contents out.old)
+    ensures obeyed { Obeys (D.held disk.now) (D.unread disk.now) chosen.now (W.contents out.old)
         (W.contents out.new) result }
+    ensures unread { FailsForItself (D.held disk.now) (D.unread disk.now) chosen.now result }
 {
     let before = match read_track(alloc, disk, chosen.before, chosen.wire, chosen.window) {
         Ok(before) => before,

@@ -1,8 +1,9 @@
 -- What the program does for the words of its command line: from the files and the script to what is
 -- printed and written. This project's own.
-use Rattle.std.specs.Prelude.{◌≡◌, ℕ, List, Option, Ok, Err, IfSome, is_some, true}
+use Rattle.std.specs.Prelude.{◌≡◌, ℕ, List, Option, Some, None, Ok, Err, IfSome, is_some, true}
 use Rattle.clap.specs.Words.{Text}
 use Rattle.irig_settings.specs.{Settings.Reads, declared.chosen.Settings.Settings}
+use Rattle.irig_files.specs.declared.dump_file.DumpFileFault.{DumpFileFault}
 use Rattle.irig_files.specs.Tracks.{IsUnreadOrShort, name_in}
 use Rattle.irig_editor.specs.declared.ending.Ending.TheVariants.{Usage, Unread, Over, Unknown, Saved}
 use Rattle.irig_editor.specs.declared.ending.Ending.TheVariants.{Ran}
@@ -35,6 +36,11 @@ Obeys given old new chosen (Saved path) =
     × IfSome (given.held chosen.track.now) (λ all. source ≡ all)
     × IsOfSession chosen.window (name_in chosen.wire) source)
 Obeys given old new chosen (Usage fault) = ⊥
+
+-- the fault for which the track was not read
+abbrev pub unread_fault : Ending → Option DumpFileFault
+unread_fault (Unread path fault) = Some fault
+unread_fault ending = None
 
 -- the settings are those of the words, and they were obeyed; or the words have none
 abbrev pub EndsBy : List Text → Files → Ends → Ends → Ending → Type 0

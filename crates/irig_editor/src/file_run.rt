@@ -1,10 +1,10 @@
 //! A script run on the file of a dump, as the words of a command line ask.
 
-ghost use Rattle.std.specs.Prelude.{◌≡◌, IfErr, IfOk, IsTrue, false, is_some, map, string_bytes};
-ghost use Rattle.std.specs.Prelude.{true};
-ghost use Rattle.irig_editor.specs.{Ending.EndsBy, Ending.Obeys};
+ghost use Rattle.std.specs.Prelude.{◌≡◌, IfErr, IfOk, IfSome, IsTrue, false, is_some, map};
+ghost use Rattle.std.specs.Prelude.{string_bytes, true};
+ghost use Rattle.irig_editor.specs.Ending.{EndsBy, Obeys, unread_fault};
 ghost use Rattle.irig_editor.specs.Given.{IsApart, ends, files};
-ghost use Rattle.irig_files.specs.{Apart.LeadToOneFile, Puts.writes_on};
+ghost use Rattle.irig_files.specs.{Apart.LeadToOneFile, Puts.writes_on, Tracks.IsUnread};
 
 use crate::ending::Ending;
 use crate::script_run::run_on_read;
@@ -103,11 +103,13 @@ fn run_with_room<'a, D: Disk, R: Read, W: Write, N: Witness>(
     screen: &mut Screen<W, N>,
 ) -> Ending<'a>
     requires { IsTrue D.is_told → IsApart chosen.now (D.disk disk.old) }
-    ensures { Obeys (files (D.held disk.old) (D.unread disk.old) D.is_told
+    ensures obeyed { Obeys (files (D.held disk.old) (D.unread disk.old) D.is_told
         (D.is_barred disk.old) (D.is_barred disk.new) (D.disk disk.old) (D.disk disk.new))
         (ends screen.old (writes_on D.is_told (D.disk disk.old)) (R.remaining script.old))
         (ends screen.new (writes_on D.is_told (D.disk disk.new)) (R.remaining script.new))
         chosen.now result }
+    ensures unread { IfSome (unread_fault result) (IsUnread chosen.now.window
+        (D.held disk.old chosen.now.track.now) (D.unread disk.old chosen.now.track.now)) }
 {
     match read_in_window(alloc, disk, chosen.track, chosen.wire, chosen.window) {
         Ok(read) => run_on_read(alloc, chosen, read, room, disk, script, screen),

@@ -1,9 +1,9 @@
 //! A script run on what was read of a dump.
 
-ghost use Rattle.std.specs.Prelude.{◌≡◌, ◌&&◌, ◌≤◌, ◌^◌, ℕ, List, IfSome, IsTrue, Ok, false};
+ghost use Rattle.std.specs.Prelude.{◌≡◌, ◌&&◌, ◌≤◌, ◌^◌, ℕ, List, IfSome, IsTrue, None, Ok, false};
 ghost use Rattle.std.specs.Prelude.{is_some, length};
 ghost use Rattle.irig_vcd.specs.{Answer.Gives, Answer.bytes_of, Window.parts_in};
-ghost use Rattle.irig_editor.specs.{Ending.Obeys, RunsBy.RunsBy};
+ghost use Rattle.irig_editor.specs.{Ending.Obeys, Ending.unread_fault, RunsBy.RunsBy};
 ghost use Rattle.irig_editor.specs.Given.{IsApart, ends, files};
 ghost use Rattle.irig_files.specs.Reads.{HasBytes, most_bytes, parts_of};
 ghost use Rattle.irig_files.specs.{Puts.writes_on, Tracks.name_in};
@@ -29,7 +29,8 @@ pub fn run_on_read<'a, D: Disk, R: Read, W: Write, N: Witness>(
 ) -> Ending<'a>
     requires few { HasBytes (most_bytes chosen.now.window) read }
     requires apart { IsTrue D.is_told → IsApart chosen.now (D.disk disk.old) }
-    ensures { (source : List ℕ)
+    ensures read { unread_fault result ≡ None }
+    ensures obeyed { (source : List ℕ)
         → Gives parts_of read (parts_in chosen.now.window (name_in chosen.now.wire) source)
         → IfSome (D.held disk.old chosen.now.track.now) (λ all. source ≡ all)
         → Obeys (files (D.held disk.old) (D.unread disk.old) D.is_told

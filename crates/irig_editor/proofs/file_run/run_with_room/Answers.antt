@@ -3,13 +3,13 @@ use Rattle.irig_files.proofs.Apart.{stays_here}
 use Rattle.irig_files.specs.Nowhere.{leaves_nowhere}
 use Rattle.irig_editor.proofs.file_run.run_with_room.Goals as goal
 
-pub returns-in-Ok : goal.returns-in-Ok
-returns-in-Ok g c =
+pub returns-in-Ok-clause-obeyed : goal.returns-in-Ok-clause-obeyed
+returns-in-Ok-clause-obeyed g c =
     let read = c.in-Ok.ensures.read in
-    c.run_on_read.ensures read.source read.parts read.whole
+    c.run_on_read.ensures.obeyed read.source read.parts read.whole
 
-pub returns-in-Err : goal.returns-in-Err
-returns-in-Err g c = (
+pub returns-in-Err-clause-obeyed : goal.returns-in-Err-clause-obeyed
+returns-in-Err-clause-obeyed g c = (
   refl,
   (
     refl,

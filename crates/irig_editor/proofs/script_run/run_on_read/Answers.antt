@@ -5,8 +5,8 @@ use Rattle.irig_files.specs.{Nowhere.leaves_nowhere, Tracks.name_in}
 use Rattle.irig_vcd.specs.{Answer.bytes_of, Window.parts_in}
 use Rattle.irig_editor.proofs.script_run.run_on_read.Goals as goal
 
-pub returns-in-Err : goal.returns-in-Err
-returns-in-Err g c = λ source is whole. (
+pub returns-in-Err-clause-obeyed : goal.returns-in-Err-clause-obeyed
+returns-in-Err-clause-obeyed g c = λ source is whole. (
   refl,
   (
     source,
@@ -17,8 +17,8 @@ returns-in-Err g c = λ source is whole. (
   ),
 )
 
-pub returns-then-is_of_session : goal.returns-then-is_of_session
-returns-then-is_of_session g c = λ source is whole.
+pub returns-then-is_of_session-clause-obeyed : goal.returns-then-is_of_session-clause-obeyed
+returns-then-is_of_session-clause-obeyed g c = λ source is whole.
     let chosen = c.args.chosen.now in
     let read : parts_in chosen.window (name_in chosen.wire) source ≡ Ok (c.in-Ok.parts.0, bytes_of c.in-Ok.parts.1) = rw c.in-Ok.is at is in (
       refl,
@@ -41,5 +41,5 @@ run_on_recording-result-requires-clause-few g c =
 pub run_on_recording-result-requires-clause-whole : goal.run_on_recording-result-requires-clause-whole
 run_on_recording-result-requires-clause-whole g c = sym c.is_of_session.ensures ∙ c.if-is_of_session.false
 
-pub returns : goal.returns
-returns g c = λ source is whole. (refl, (source, whole, c.run_on_recording-result.ensures source (rw c.in-Ok.is at is)))
+pub returns-clause-obeyed : goal.returns-clause-obeyed
+returns-clause-obeyed g c = λ source is whole. (refl, (source, whole, c.run_on_recording-result.ensures source (rw c.in-Ok.is at is)))
