@@ -14,6 +14,8 @@ FAULTS = {
     7: "NotOneBit", 8: "NoEndDefinitions", 9: "BadToken", 10: "Backward", 11: "TimeTooLarge", 12: "TooManyPulses",
     13: "BadJournal",
 }
+MORE = "; irig_what FILE says more"  # what to do next about a fault of MORE_OF
+MORE_OF = (5, 6, 8, 9)
 FEMTOSECONDS = {b"s": 10**15, b"ms": 10**12, b"us": 10**9, b"ns": 10**6, b"ps": 10**3, b"fs": 1}
 DUMP_WORDS = (b"$dumpvars", b"$dumpall", b"$dumpon", b"$dumpoff", b"$end")
 WIDE_KINDS = (b"real", b"realtime", b"event", b"parameter", b"string")
@@ -24,7 +26,7 @@ class Fault(Exception):
 
     def __init__(self, number, offset=None, line=None):
         at = "" if offset is None else " at %d" % offset
-        super().__init__("V%d %s%s" % (number, FAULTS[number], at))
+        super().__init__("V%d %s%s%s" % (number, FAULTS[number], at, MORE if number in MORE_OF else ""))
         self.line = line  # of the journal, from 1: it is not printed
 
 

@@ -1,10 +1,13 @@
 //! The statuses of the program as a process, and what it says of faults.
 
+ghost use Rattle.std.specs.Prelude.{◌≡◌};
 ghost use Rattle.std.specs.Process.{exit_status};
-ghost use Rattle.irig_diff.specs.Statuses.{Reports};
+ghost use Rattle.irig_diff.specs.Statuses.{Reports, what_next};
 
 use crate::ending::Ending;
 use crate::help::program;
+use irig_files::TrackFault;
+use irig_vcd::VcdFault;
 use std::io::Write;
 use std::process::ExitCode;
 
@@ -15,9 +18,33 @@ pub fn report<R: Eprint, H: Write>(rt: &R, ending: &Ending<'_>, help: &mut H) ->
     let program = program();
     match ending {
         Ending::Usage(fault) => program.explain(rt, fault, help),
-        Ending::Unread(path, fault) => program.tell_of(rt, 2, path, fault),
+        Ending::Unread(path, fault) => tell_unread(rt, path, fault),
         Ending::Compared(true) => ExitCode::SUCCESS,
         Ending::Compared(false) => ExitCode::from(1),
         Ending::Unprinted => program.tell(rt, 2, &"output failed"),
+    }
+}
+
+/// Says why the track at this path was not read, and what to do next.
+fn tell_unread<R: Eprint>(rt: &R, path: &str, fault: &TrackFault) -> ExitCode
+    ensures { exit_status result ≡ 2 }
+{
+    let next = what_next(fault);
+    let _ = eprintln!(rt; "irig_diff: {path}: {fault}{next}");
+    ExitCode::from(2)
+}
+
+/// What a user can do next about a fault, as the end of its line; nothing, if the fault says it.
+fn what_next<'a>(fault: &TrackFault) -> &'a str
+    ensures { result.now ≡ what_next fault.now }
+{
+    match fault {
+        TrackFault::Dump(
+            VcdFault::NoSuchWire
+            | VcdFault::ManyWires
+            | VcdFault::NoEndDefinitions
+            | VcdFault::BadToken(_),
+        ) => "; irig_what FILE says more",
+        _ => "",
     }
 }

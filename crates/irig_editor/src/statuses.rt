@@ -2,12 +2,13 @@
 
 ghost use Rattle.std.specs.Prelude.{◌≡◌};
 ghost use Rattle.std.specs.Process.{exit_status};
-ghost use Rattle.irig_editor.specs.Statuses.{Reports, status_number, unread_text};
+ghost use Rattle.irig_editor.specs.Statuses.{Reports, status_number, unread_text, what_next};
 
 use crate::ending::Ending;
 use crate::help::program;
 use irig_files::DumpFileFault;
 use irig_script::{DumpRunFault, Status};
+use irig_vcd::VcdFault;
 use std::io::Write;
 use std::process::ExitCode;
 
@@ -43,7 +44,29 @@ fn tell_ended<R: Eprint>(rt: &R, path: &str, outcome: Result<Status, DumpRunFaul
     match outcome {
         Ok(Status::AllAccepted) => ExitCode::SUCCESS,
         Ok(Status::SomeRefused) => ExitCode::from(1),
-        Err(DumpRunFault::Dump(fault)) => program().tell_of(rt, 3, path, &fault),
+        Err(DumpRunFault::Dump(fault)) => tell_dump(rt, path, fault),
         Err(DumpRunFault::Run(fault)) => program().tell(rt, 4, &fault),
+    }
+}
+
+/// Says what is wrong with the dump at this path, and what to do next.
+fn tell_dump<R: Eprint>(rt: &R, path: &str, fault: VcdFault) -> ExitCode
+    ensures { exit_status result ≡ 3 }
+{
+    let next = what_next(fault);
+    let _ = eprintln!(rt; "irig_ed: {path}: {fault}{next}");
+    ExitCode::from(3)
+}
+
+/// What a user can do next about a fault, as the end of its line; nothing, if the fault says it.
+fn what_next<'a>(fault: VcdFault) -> &'a str
+    ensures { result.now ≡ what_next fault }
+{
+    match fault {
+        VcdFault::NoSuchWire
+        | VcdFault::ManyWires
+        | VcdFault::NoEndDefinitions
+        | VcdFault::BadToken(_) => "; irig_what FILE says more",
+        _ => "",
     }
 }
