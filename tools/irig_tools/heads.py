@@ -22,6 +22,7 @@ TIME = re.compile(r"(?i)\W*(time|t|timestamp|zeit|temps|x|x-axis|seconds?|sec)(\
 RATE_LINE = re.compile(r"(?i)\W*(?:meta )?samplerate\W*([0-9]+(?:\.[0-9]*)?)(?!\.)(?: *(?=[kmgh])([kmg]?)(?:hz)?)?\W*")
 WORD, LETTER = re.compile(r"\w"), re.compile(r"[^\W\d_]")
 BEGINS_NUMBER = "+-,0123456789"
+COLUMNS_SHOWN = 20  # names of columns
 MOST_ROWS_OF_HEADS = 50  # if they are next to the first rows
 CHANNELS = re.compile(r"; *Channels \([0-9/]+\): *(.*)")  # of sigrok, which can call each column `logic`
 PREFIXES = {"": 1, "k": 1000, "m": 1000000, "g": 1000000000}
@@ -149,7 +150,7 @@ class Heads:
             text = "%s: its heads are in its first columns; give the numbers of times and values, as --time-column %d --column %d"
             raise Problem(text % (self.path, numbered[0] + 1, numbered[1] + 1))
         own = [self._name(place) if self.names.count(self._name(place)) == 1 else "" for place in places]
-        listed = ", ".join(name or "number %d" % (place + 1) for place, name in zip(places, own))
+        listed = _listed([name or "number %d" % (place + 1) for place, name in zip(places, own)])
         raise Problem("%s: has several columns; name one or its number, as --column '%s': %s" % (
             self.path, own[0] or places[0] + 1, listed) if places else "%s: has no column of values" % self.path)
 
@@ -169,8 +170,13 @@ class Heads:
             return self.names.index(name)
         if WHOLE.fullmatch(name) and 1 <= int(name) <= self.count:
             return int(name) - 1
-        listed = ", ".join(filter(None, self.names)) or "the numbers 1 to %d" % self.count
+        listed = _listed([each for each in self.names if each]) or "the numbers 1 to %d" % self.count
         raise Problem("%s: has no column '%s'; there are: %s" % (self.path, name, listed))
+
+
+def _listed(names: Sequence[str]) -> str:
+    """These names, or the first of them and how many more there are."""
+    return ", ".join([*names[:COLUMNS_SHOWN], *["and %d more" % (len(names) - COLUMNS_SHOWN)] * (len(names) > COLUMNS_SHOWN)])
 
 
 def with_values(others: Sequence[Tuple[int, str]], rows: Sequence[Sequence[str]], form: Columns) -> List[Tuple[int, str]]:

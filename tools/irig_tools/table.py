@@ -10,15 +10,15 @@ from typing import IO, Iterator, List, Optional, Sequence, Tuple
 
 from .aside import Aside
 from .cycles import Edge
-from .digits import NUMBER, WHOLE
+from .digits import NUMBER
 from .editor import Problem
-from .heads import Heads, fields_of, is_row, rate_of, with_values
+from .first_row import heads_and_row
+from .heads import Heads, fields_of, rate_of, with_values
 from .row_kind import RowKind, even_distances
 from .samples import LARGEST, MICROSECONDS, Samples, stream_of
 from .wire import LONGEST_TIME
 
 LONGEST_LINE = 10000  # bytes of a line
-MOST_HEADS = 1000  # lines before the first row
 LOOKED_AT = 10000  # rows that show the rate, and whether the values are levels
 ROUND = 1e-4  # a rate that is as near to one of three digits is that one
 NEAR_ROW = 0.25  # of that distance: a row is where the rate has it
@@ -67,7 +67,7 @@ class Table(Samples):
         self.held: List[Tuple[float, Sequence[str]]] = []  # the first rows, until they show which columns have more than heads
         self.is_open = False  # the last line has no end, so it can be cut
         self.lines = self._lines(stream_of(path))
-        heads, first = self._heads([int(name) - 1 for name in (time, value) if name and WHOLE.fullmatch(name) and int(name)])
+        heads, first = heads_and_row(path, self.lines, (time, value))
         self.rate = rate or rate_of(heads)
         named = Heads(heads, first, path)
         self.form = named.form(time, value, bool(rate))
@@ -107,18 +107,6 @@ class Table(Samples):
             if len(line) >= LONGEST_LINE:
                 raise Problem("%s: line %d is too long for a table" % (self.path, self.number))
             yield decoded(line, "utf-8-sig" if self.number == 1 else "utf-8").strip("\r\n\0 ")
-
-    def _heads(self, places: Sequence[int]) -> Tuple[List[str], str]:
-        """The lines before the first row, and that one."""
-        heads: List[str] = []
-        for line in self.lines:
-            if is_row(line, places):
-                return heads, line
-            heads.append(line)
-            if len(heads) > MOST_HEADS:
-                break
-        raise Problem("%s: is no table: no row of numbers is found; the columns are parted by , ; or a tab; if others have "
-                      "words, give the numbers of both, as --time-column 1 --column 2" % self.path)
 
     def _rows(self, first: str) -> Iterator[Row]:
         """The rows, by the time since the first."""
