@@ -178,6 +178,7 @@ def changes(browser: Browser, address: str) -> None:
     browser.open(address + "#changed-2")
     states = "[...document.querySelectorAll('#list .state')].map((each) => each.textContent).join()"
     check("the list has what was repaired", "repaired,repaired,left to you,repaired,repaired,left to you", browser.run(states))
+    waves(browser)
     listed(browser, sheet)
     stretches(browser)
     marks(browser)
@@ -187,6 +188,14 @@ def changes(browser: Browser, address: str) -> None:
         browser.settle()
         check("it fits %d pixels" % width, True, browser.run("document.documentElement.scrollWidth <= innerWidth"))
     browser.size(1500, 950)
+
+
+def waves(browser: Browser) -> None:
+    """A waveform of a repair that was made is named as what was, and a text that is the title is not there twice."""
+    names = "[...document.querySelectorAll('#wave text.row, .waves text.row')].map((each) => each.textContent.split(',')[0])"
+    check("a waveform before a repair that was made is as it was", True, "as it was" in browser.run(names))
+    twice = "shownPlace({...places[0], reason: places[0].title}).facts.some((each) => each.textContent === places[0].title)"
+    check("what is seen is not there twice", False, browser.run(twice))
 
 
 def listed(browser: Browser, sheet: Changes) -> None:

@@ -12,12 +12,14 @@ from .became import Became, became_of, moved_back, moved_by
 from .damage import THE_WHOLE, Damage, Seen
 from .editor import Listing
 from .escapes import in_line
+from .kinds import DamageKind
 from .moments import DAY, SECOND
 from .repairs import OFF_HERE
 from .script import Repair
 from .sheet import DAMAGED, LOST, SOUND, STATES, Changes, Place, Sheet, Stretch, Wave, cut, merged
 from .spans import Span
 from .steps import cut_by_a_step
+from .texts import seconds
 from .units import ELEMENTS, FrameNumber, PlaceNumber, frame_of, place_in, plus
 from .version import version
 
@@ -34,7 +36,7 @@ def sheet_of(name: str, wire: str, seen: Seen, script: Sequence[Repair] = (), af
     found = [each for each in seen.damages if not each.is_remark]
     lines = tuple(line for repair in script for line in repair.lines())
     kind = "%s %d" % (layout.kind, layout.expression)
-    said = tuple(each.seen for each in seen.damages if each.is_remark or each.name == THE_WHOLE)
+    said = tuple(note_of(each) for each in seen.damages if each.is_remark or each.name == THE_WHOLE)
     if changes and after:
         became = became_of(found, there, script, ELEMENTS * layout.interval)
         places = sorted(_places_after(seen, became, script, after), key=lambda place: place.at)
@@ -43,6 +45,12 @@ def sheet_of(name: str, wire: str, seen: Seen, script: Sequence[Repair] = (), af
     stretches = _stretches(seen.findings, seen.listing)
     return Sheet(name, seen.listing.length, layout.interval, kind, stretches, tuple(places), lines, said, changes, wire=wire,
                  span=_span_of_times(seen), clock=tuple(_clock_of(seen)))
+
+
+def note_of(damage: Damage) -> str:
+    """What a page says of the whole recording, or of silence at an end of it: a line of a tool has its time first, in microseconds."""
+    is_silence = damage.kind == DamageKind.SILENCE
+    return "no pulse from %s to %s" % (seconds(damage.at), seconds(damage.until)) if is_silence else damage.seen
 
 
 def of_program(sheet: Sheet, program: str, summary: str) -> Sheet:

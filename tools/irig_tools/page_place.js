@@ -16,7 +16,7 @@ function shownPlace(place) {
   const picture = draw("svg", {class: "waves", role: "img", "aria-label": describe(place)});
   const facts = [make("p", {class: "times"}, times(place))];
   if (!place.reason.includes(place.frame)) facts.push(make("p", {}, "In " + place.frame));
-  facts.push(make("p", {class: "reason"}, place.reason));
+  if (place.reason !== place.title) facts.push(make("p", {class: "reason"}, place.reason));
   const open = !held.changes ? "No repair is proposed: this place is left to you."
     : place.after ? "What was changed here does not repair it: this place is left to you."
       : "Nothing was changed here: this place is left to you.";

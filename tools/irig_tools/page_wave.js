@@ -89,6 +89,9 @@ function tints(place, view, bottom) {
   return made;
 }
 
+// What the recording is, next to what was made of it, or could be.
+const asItIs = held.changes ? "as it was" : "as it is";
+
 // What the numbers below pulses are, or how to get to see the classes.
 function hint(view) {
   if (roomOf(view) >= 40) return ", widths in µs";
@@ -96,7 +99,7 @@ function hint(view) {
 }
 
 function paintWave(view, place) {
-  const rows = [["as it is" + hint(view), place.before]];
+  const rows = [[asItIs + hint(view), place.before]];
   if (place.after) rows.push(["after the repair", place.after]);
   const bottom = 6 + ROW * rows.length;
   view.picture.setAttribute("height", bottom + AXIS);
@@ -115,7 +118,7 @@ function classesOf(wave) {
 }
 
 function describe(place) {
-  const before = "Classes as it is: " + classesOf(place.before);
+  const before = `Classes ${asItIs}: ` + classesOf(place.before);
   return place.after ? before + ". After the repair: " + classesOf(place.after) : before;
 }
 
