@@ -83,7 +83,8 @@ def refused():
         for name, words, texts, text in REFUSED:
             status, printed, said = run("irig_join", [*words, *files(texts)])
             yield same(name, (status, printed, text in said), (2, b"", True))
-        for words, text in ((["a.csv"], "no FILE... is given"), (["-", "-"], "- is given twice"), (["a.csv", "none"], "none: No such file"),
+        for words, text in ((["a.csv"], "no second FILE is given"), (["-", "-"], "- is given twice"),
+                            (["a.csv", "none"], "none: No such file"),
                             (["--out", "a.csv", "b.csv", "a.csv"], "--out a.csv would write over the file that is read")):
             status, printed, said = run("irig_join", words)
             yield same(" ".join(words), (status, printed, text in said), (2, b"", True))

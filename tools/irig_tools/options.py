@@ -162,7 +162,7 @@ class Command:
         needed = [operand for operand in self.operands if not operand.startswith("[")]
         for place, operand in enumerate(needed):
             if not any(names[place:place + 1]):
-                raise Usage("no %s is given" % operand)
+                raise Usage("no %s%s is given" % ("second " * operand.endswith(MORE), operand.replace(MORE, "")))
         if len(names) > len(self.operands) and not self.operands[-1].endswith(MORE):
             raise Usage("'%s' is one too many; the operands are %s" % (
                 names[len(self.operands)], " ".join(self.operands)))
