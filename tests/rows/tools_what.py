@@ -74,6 +74,15 @@ def bus(edges):
                      + ["#%d b%d00 ! 1c" % (time, level) for time, level in edges])
 
 
+def in_bursts():
+    """Code, and a clock next to it that is as fast as format A, sixteen pulses at a time: no frame of it is fine."""
+    ticks = [burst + 1000 * tick for burst in range(35000, B[1] - 20000, 100000) for tick in range(16)]
+    changes = [(time + shift, word) for time in ticks for shift, word in ((0, "1c"), (500, "0c"))]
+    changes += [(time, "%d!" % level) for time, level in B[0]]
+    lines = ["$timescale 1 us $end", SCOPES, "$enddefinitions $end", "#0 0! 0c", *("#%d %s" % each for each in sorted(changes))]
+    return "\n".join([*lines, "#%d" % B[1]]) + "\n"
+
+
 def noisy():
     """In frame 2 elements 45 to 74 are noise: pulses as wide as ones, 13 ms apart, so some are near control elements."""
     edges, length = track("B", 6, 30000)
@@ -141,6 +150,8 @@ ROWS = [
     ("two dumps in a file", dump(*B) + dump(*B), [], 1, ["the file has 2 dumps", "--dump=1"], 4),
     ("two wires with time code", dump(*B, declared=SCOPES).replace("0!", "0! 0c").replace("1!", "1! 1c"), [], 1,
      ["clock (code c, path tb.clock)", "irig (code !, path tb.irig)"], 4),
+    ("a clock in bursts next to it", in_bursts(), [], 0,
+     ["clock (code c, path tb.clock), upside down, format A: no frame is fine under any"], 4),
     ("no frame", dump(B[0][:40], 300000), [], 1, ["no frame is fine under any expression; 2 is only a guess"], 0),
     ("nothing", dump([(5, 1), (9, 0)], 99), [], 1, ["A, B, E or G; the unit of time is 1us (--timescale UNIT takes another)"], None),
     ("nothing, and no unit", dump([(5, 1), (9, 0)], 99, unit=""), [], 1, ["no unit of time is named, and these were tried: 1 us,"], None),

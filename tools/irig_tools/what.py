@@ -22,6 +22,7 @@ from .sheet import STATES
 from .search import TRIED, Found, Probe, search
 from .temporary import named_if_no_room, temporary_track
 from .wire import Extract, Wish, extract_all
+from .with_code import lines_of_all
 
 
 @dataclass
@@ -53,12 +54,18 @@ class CodeWire:
         return self.best.led if self.best else 0
 
     @property
+    def has_frames(self) -> bool:
+        return self.fine > 0 or self.led > 0
+
+    @property
     def expression(self) -> int:
         return self.best.expression if self.best else 2
 
+    def first_line(self) -> str:
+        return "wire %s, %s, format %s" % (self.text, "upside down" if self.inverted else "upright", self.kind)
+
     def lines(self) -> List[str]:
-        side = "upside down" if self.inverted else "upright"
-        lines = ["wire %s, %s, format %s" % (self.text, side, self.kind)]
+        lines = [self.first_line()]
         if not self.readings.rows:
             lines.append("  irig_ed does not read it: " + (self.readings.refused or "no answer"))
         else:
@@ -172,7 +179,7 @@ class What:
 
     def lines(self) -> List[str]:
         found = self.found
-        lines = [line for carrier in self.carriers for line in carrier.lines()]
+        lines = lines_of_all(self.carriers)
         lines += ["wire %s may carry time code, too; only %d wires are read" % (text, MOST_READ)
                   for text in wire_texts(found.header, [probe.signal for probe in found.probes[MOST_READ:]])]
         if not found.header.unit and not self.unit and found.probes:
@@ -189,7 +196,8 @@ class What:
 
     def sure(self) -> bool:
         """Whether just one wire of a whole file carries time code, and some frame is fine."""
-        return len(self.found.probes) == 1 and self.found.dumps == 1 and not self.found.is_cut and self.carriers[0].fine > 0
+        is_one = sum(each.has_frames for each in self.carriers) == 1 and len(self.found.probes) == len(self.carriers)
+        return is_one and self.found.dumps == 1 and not self.found.is_cut and self.carriers[0].fine > 0
 
     def proposal(self) -> Proposal:
         """How to continue, for the wire with the most fine frames."""

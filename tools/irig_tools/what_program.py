@@ -17,6 +17,7 @@ from .search import HOPELESS, WINDOW
 from .texts import counted
 from .what import What
 from .what_samples import Lanes, lanes_at
+from .with_code import lines_of_all
 
 COMMAND = Command("irig_what", ("DUMP",), """\
 Says which wires of a value change dump carry IRIG 200-04 time code, upright or
@@ -59,9 +60,9 @@ def say_lanes(lanes: Lanes, name: str, as_objects: bool) -> int:
     if as_objects:
         sys.stdout.write(objects([each.as_object(command) for each, command in zip(found, commands)]))
     else:
-        lines = [line for each in found for line in each.lines()] + commands[:1] if found else [NO_LANE % lanes.many]
+        lines = lines_of_all(found) + commands[:1] if found else [NO_LANE % lanes.many]
         sys.stdout.write("".join(line + "\n" for line in lines))
-    return ALL_RIGHT if len(found) == 1 and found[0].carrier.fine else FOUND
+    return ALL_RIGHT if sum(each.has_frames for each in found) == 1 and found[0].carrier.fine else FOUND
 
 
 def what_of_a_part(path: str, name: str, unit: str, parts: ExitStack) -> Optional[What]:

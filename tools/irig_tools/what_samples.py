@@ -35,10 +35,17 @@ class CodeLane:
         """The options of irig_demodulate that make a track of it that is upright."""
         return [*self.lane.words, *["--swap"] * self.carrier.inverted]
 
-    def lines(self) -> List[str]:
+    @property
+    def has_frames(self) -> bool:
+        return self.carrier.has_frames
+
+    def first_line(self) -> str:
         side = "upside down" if self.carrier.inverted else "upright"
         how = "on a carrier" if self.lane.is_carrier else side
-        return ["%s, %s, format %s" % (in_line(self.lane.text), how, self.carrier.kind), *self.carrier.lines()[1:]]
+        return "%s, %s, format %s" % (in_line(self.lane.text), how, self.carrier.kind)
+
+    def lines(self) -> List[str]:
+        return [self.first_line(), *self.carrier.lines()[1:]]
 
     def as_object(self, command: str) -> Dict[str, object]:
         """For a program."""
