@@ -83,7 +83,7 @@ def table():
         why = [line for line in lines[6:-1] if line.startswith(("junk.vcd: ", "deep/step.vcd: ", "cut.vcd: "))]
         yield same("the reasons", len(why), len(lines) - 7)
         yield same("of a file that is cut", "cut.vcd: the file ends within a time, so it is cut" in why, True)
-        yield same("what is left out", "in: 1 of the files are no dumps and are left out: notes.txt" in said, True)
+        yield same("what is left out", "in: 1 file is no dump and is left out: notes.txt" in said, True)
         yield same("the results", outputs(), ["cut.vcd", "deep/rec.vcd", "deep/step.vcd", "rec.vcd"])
         yield same("the recordings", {name: text_of(name) for name in before}, before)
         yield same("the other wires", others(text_of("mended/rec.vcd")), others(before["in/rec.vcd"]))

@@ -16,6 +16,7 @@ from .proposal import no_option
 from .record import record_in
 from .recordings import Looked, look_into
 from .results import NAMED_AT_MOST, Result, report_of, several_expressions, table_of_all, worst_first
+from .texts import counted
 from .version import version
 
 PROGRAM = "irig_mend"
@@ -67,8 +68,8 @@ def _looked(folder: str, out: str) -> Looked:
     looked = look_into(folder, out)
     if looked.others:
         more = ", .." if len(looked.others) > NAMED_AT_MOST else ""
-        complain("%s: %d of the files are no dumps and are left out: %s%s" % (
-            name_of(folder), len(looked.others), ", ".join(looked.others[:NAMED_AT_MOST]), more), PROGRAM)
+        said = counted(len(looked.others), "file is no dump and is", "files are no dumps and are")
+        complain("%s: %s left out: %s%s" % (name_of(folder), said, ", ".join(looked.others[:NAMED_AT_MOST]), more), PROGRAM)
     if not looked.recordings and not looked.problems:
         raise Problem("%s: has no recording" % folder)
     return looked
