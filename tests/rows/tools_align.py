@@ -199,11 +199,27 @@ def years():
     return in_folder(lambda: list(holds()), **texts)
 
 
+def of_named_columns():
+    """A column is named by its name in the header, too."""
+    times = moments(random.Random("columns"), 300)
+    parted = "id,,\nid, t_us ,v\n" + "".join("a,%d,5\n" % time for time in times)
+    spaced = " name  t_us \tv\n" + "".join("a %d 5\n" % time for time in times)
+
+    def holds():
+        for given, words in ((parted, ["--comma=,", "--header=2"]), (spaced, ["--header=1"])):
+            for column in ("t_us", "2", "v"):
+                asked = [*CODE, *words, "--column=" + column, "track.vcd"]
+                yield same("%s" % asked, aligned(4000, asked, given.encode()), whole(asked, given.encode()))
+
+    return in_folder(lambda: list(holds()), track=dump(code(1000)))
+
+
 def refused():
     """What is not read: the answer of irig_time; and a line that is too long."""
     def holds():
         for words in (["--format=B", "none.vcd"], ["--wire=other", "track.vcd"], ["--name=UTC", "track.vcd"], ["--comma=ab", "track.vcd"],
-                      ["bad.vcd"], ["--offset=x", "track.vcd"], ["--offset=1e40", "track.vcd"], ["--column=65537", "track.vcd"]):
+                      ["bad.vcd"], ["--offset=x", "track.vcd"], ["--offset=1e40", "track.vcd"], ["--column=65537", "track.vcd"],
+                      ["--column=0", "track.vcd"], ["--column=t", "track.vcd"], ["--column=t", "--header=1", "track.vcd"]):
             wanted = whole(words, b"1\n")
             found = aligned(4000, words, b"1\n")
             yield same("%s" % words, (found[:2], found[2].replace("irig_time: ", "irig_align: ")), (wanted[:2], wanted[2]))
@@ -217,4 +233,5 @@ def refused():
 
 def cases(top):
     """Each part by its name."""
-    return [case("align: " + part.__name__, part) for part in (in_any_size, of_one_frame, by_halves, around_noise, years, refused)]
+    parts = in_any_size, of_one_frame, by_halves, around_noise, of_named_columns, years, refused
+    return [case("align: " + part.__name__, part) for part in parts]

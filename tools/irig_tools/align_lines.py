@@ -1,6 +1,7 @@
 """The times in the lines that irig_align hands to irig_time: by them a line comes to the window that it is in."""
 from __future__ import annotations
 
+import os
 import re
 from dataclasses import dataclass
 from typing import IO, Iterator, Optional, Tuple
@@ -27,6 +28,15 @@ def pattern_of(comma: Optional[str], column: int) -> "re.Pattern[bytes]":
     blank = b"[%s]*" % BLANKS.replace(byte, b"")
     skipped = b"(?:[^%s]*%s){%d}%s" % (re.escape(byte), re.escape(byte), column - 1, blank)
     return re.compile(skipped + SIGNED_NUMBER + blank + b"(?:%s|\\Z)" % re.escape(byte), re.DOTALL)
+
+
+def number_of_column(asked: Optional[str], comma: Optional[str], header: bytes) -> int:
+    """The number of a column, from 1, that is asked for by it, or by its name in a header: irig_time has read that, so it is there once."""
+    if asked is None or asked.isdigit():
+        return int(asked or 1)
+    line = header[:-1] if header.endswith(b"\n") else header
+    names = line.split(comma.encode("utf-8", "replace")) if comma else re.findall(b"[^%s]+" % BLANKS, line)
+    return [name.strip(BLANKS) for name in names].index(os.fsencode(asked)) + 1
 
 
 def picos_of(found: "re.Match[bytes]", places: int) -> int:

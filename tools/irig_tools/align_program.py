@@ -11,7 +11,7 @@ from itertools import islice
 from typing import IO, Iterator, List, Optional, Tuple
 
 from .align_frames import TRACK_PULSES, LongTrack
-from .align_lines import PICOS, UNIT_PLACES, LineTimes, each_line, offset_of_lines, offset_text, pattern_of
+from .align_lines import PICOS, UNIT_PLACES, LineTimes, each_line, number_of_column, offset_of_lines, offset_text, pattern_of
 from .align_runs import Aligner, AlignerEnded, AlignerRun, Call
 from .align_tally import ColumnCounts, LineTally
 from .align_years import years_of
@@ -31,7 +31,7 @@ ALIGN_EXPRESSION = Option("--expression", "0..7", "the coded expression; 2, if i
 TIME_UNIT = Option("--unit", "UNIT", "of the recorder's time: s, ms, us, ns or ps, or 10 or 100 of it, as 100ns; us, if it is not given",
                    choices=tuple(UNIT_PLACES))
 OFFSET = Option("--offset", "NUMBER", "the recorder's time at the start of the track, in the unit; 0, if it is not given")
-LINE_COLUMN = Option("--column", "N", "the column of the recorder's time, from 1", whole(1))
+LINE_COLUMN = Option("--column", "COLUMN", "the column of the recorder's time: its number, from 1, or its name in the header")
 COMMA = Option("--comma", "CHARACTER", "what parts columns; white space, if it is not given")
 HEADER = Option("--header", "N", "that many lines are the header", whole(0))
 COLUMN_NAME = Option("--name", "NAME", "the name of the new column, with --header; time, if it is not given")
@@ -169,6 +169,7 @@ class LongAlignment:
         out.write(looked.printed())
         if header and not header[-1][1]:
             return self.too_long()
+        self.column = number_of_column(given.text(LINE_COLUMN), comma, header[-1][0] if header else b"")
         self.track.read()
         self.parts = self.track.parts()
         self.years = years_of(self.track, self.parts, given.number(YEAR))
@@ -177,7 +178,7 @@ class LongAlignment:
 
     def _of_lines(self, lines: Iterator[Tuple[bytes, bool]], out: IO[bytes]) -> int:
         offset = offset_of_lines(self.given.text(OFFSET), self.places)
-        times = LineTimes(pattern_of(self.given.text(COMMA), self.given.number(LINE_COLUMN) or 1), self.places, offset)
+        times = LineTimes(pattern_of(self.given.text(COMMA), self.column), self.places, offset)
         begins, part = [each.begin for each in self.parts], 0
         batch = Batch(len(begins))
         for line, is_good in lines:
@@ -218,9 +219,9 @@ class LongAlignment:
 
     def _call(self, number: int, lines: bytearray, offset: int) -> Call:
         part = self.parts[number]
-        options = [option for option in OF_LINES if option is not WHY or part.start < part.stop]
+        options = [option for option in OF_LINES if option is not LINE_COLUMN and (option is not WHY or part.start < part.stop)]
         shifted = "--offset=" + offset_text(offset + part.start * PICOS, self.places)
-        words = [*aligner_words(self.given, *OF_FRAMES, *options), ALIGN_QUIET.name]
+        words = [*aligner_words(self.given, *OF_FRAMES, *options), "%s=%d" % (LINE_COLUMN.name, self.column), ALIGN_QUIET.name]
         return Call([*words, shifted, *self.years[number], *part.words()], lines)
 
     def too_long(self) -> int:
