@@ -146,7 +146,7 @@ class Times:
     def _look(self, number: int) -> Tuple[int, int, int]:
         claim, after = self.claims[number:number + 2]
         whole = after.kind == NEXT and ahead(self.prices, claim, after) == 1
-        end = self.rises[after.rise] if whole else self.prices.end(claim.rise, after.rise)
+        end = self.rises[after.rise] if whole else min(self.rises[after.rise], self.prices.wire_end(claim.rise))
         return self.prices.look(claim.rise, end)
 
     def _contradicts(self, looks: Sequence[Tuple[int, int, Tuple[int, int, int]]]) -> int:

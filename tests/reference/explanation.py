@@ -15,11 +15,12 @@ SKIP = 128  # a rise that is no element: a pulse at a random moment with a rando
 EXTRA, MORE = 32, 8  # a glitch or a gap in an element: the first, and each of the others
 TURNED = 96  # an interval of the wire at the other level
 OFF_LINE = 80  # a rise that is late or early, at most
+TREMBLE = 16  # the same after a step in time or a jump: a rise can be anywhere there, but a jump is not cheaper than a little late
 MISSING = 72  # elements without a rise: that much, and 6/5 of the logarithm of how many
 NOTHING = 112  # an element that looks like nothing
 NO_FALL = 96  # a pulse that does not end in its element
 WIDTH, WIDTH_MORE, WIDTH_MOST = 48, 128, 96  # another width: at once, for each interval, and at most
-ZERO, ONE = 1, 11  # bits are mostly zero
+ONE = 10  # bits are mostly zero
 STEP = 192  # the time steps, the element number goes on
 JUMP = 256  # the element number jumps
 SURE = 176  # what all explanations say that cost less than this more is sure: more than a jump that one element contradicts
@@ -112,12 +113,13 @@ class Prices:
         self.clock = Clock(self.rises, nominal)
         self.intervals = self.clock.intervals
         widths = [self._off_width(PART * (fall - rise), self.clock.nominal) for rise, fall in pulses]
-        ends = [rise + 15 * interval // (16 * PART) for rise, interval in zip(self.rises, self.intervals)]
+        ends = [self.wire_end(rise) for rise in range(len(self.rises))]
         self.wires = [bisect_left(self.rises, end, rise + 1) for rise, end in enumerate(ends)]  # the first rise after each element's wire
         smallest = min(self.intervals, default=0)  # of fewer elements three spreads of one more are less than half an interval
         self.narrow = next(count for count in range(1, 1 << 20) if 36 * self.clock.spread_of(count + 1) >= smallest * smallest)
         self.largest = max(self.intervals, default=1)
-        self.width_spread = max(3 * middle(widths) // 2 if widths else 0, self.clock.nominal // 64)
+        usual = min(middle(widths), self.clock.nominal) if widths else 0
+        self.width_spread = max(3 * usual // 2, self.clock.nominal // 64)
 
     @staticmethod
     def _off_width(width: int, interval: int) -> int:
@@ -151,23 +153,34 @@ class Prices:
 
     def _width(self, off: int, interval: int) -> int:
         """What a width costs that is so far from that of the class."""
+        if off > interval:
+            return WIDTH_MOST
         return min(8 * off * off // (self.width_spread * self.width_spread), WIDTH + WIDTH_MORE * off // interval, WIDTH_MOST)
 
     def as_roles(self, look: Tuple[int, int, int]) -> Tuple[int, int, int]:
         """The same as an element that is unused, carries a bit, or is a position identifier."""
         zero, one, position = look
-        return zero, min(zero + ZERO, one + ONE), position
+        return zero, min(zero, one + ONE), position
 
-    def end(self, rise: int, later: int) -> int:
-        """Where the wire of an element ends if the next claimed rise is not that of the next element."""
-        return min(self.rises[later], self.rises[rise] + 15 * self.intervals[rise] // (16 * PART))
+    def wire_end(self, rise: int) -> int:
+        """Where the wire of an element ends if the next claim is not about the element after it."""
+        return self.rises[rise] + 15 * self.intervals[rise] // (16 * PART)
 
-    def between(self, rise: int, later: int, count: int) -> int:
-        """What is passed over costs if a step goes over that many elements: those without a rise, and rises after the first one's wire."""
-        passed = self.passed(rise, later)
-        if count == 1 and not passed:
-            return 0
-        return min(missing(count - 1) + SKIP * passed, NOTHING * max(1, count - 1))
+    def wire(self, rise: int, later: int, count: int) -> Tuple[int, int, int]:
+        """What the wire between two rises costs as an element of each role, and the elements without a rise that follow it. If it is that
+        of one element it goes up to the later rise; else a fall can be late, and the rises after that are passed over."""
+        if count == 1:
+            return self.as_roles(self.look(rise, self.rises[later]))
+        own = self.as_roles(self.look(rise, self.wire_end(rise)))
+        more = min(missing(count - 1) + SKIP * self.passed(rise, later), NOTHING * max(1, count - 1))
+        return own[0] + more, own[1] + more, own[2] + more
+
+    def least(self, rise: int, later: int) -> Tuple[int, int, int]:
+        """What any step costs at least: the wire as the clock counts it, and a little for a late rise."""
+        gone = self.gone(rise, later)
+        late = min(self.late(rise, later, gone), TREMBLE)
+        wire = self.wire(rise, later, gone)
+        return wire[0] + late, wire[1] + late, wire[2] + late
 
     def passed(self, rise: int, later: int) -> int:
         """How many rises lie between an element's wire and a later rise."""
@@ -184,12 +197,17 @@ class Prices:
     def deviation(self, rise: int, later: int, count: int) -> int:
         return abs(PART * (self.rises[later] - self.rises[rise]) - count * self.interval(rise, later))
 
+    def late(self, rise: int, later: int, count: int) -> int:
+        """What the second rise costs by how far it is off that many elements after the first one."""
+        far = self.deviation(rise, later, count)
+        return 32 * far * far // self.clock.spread_of(count)
+
     def off(self, rise: int, later: int, count: int) -> int:
-        """What the second rise costs that many elements after the first one, by how far it is off; CANNOT if by too much."""
-        far, interval, square = self.deviation(rise, later, count), self.interval(rise, later), self.clock.spread_of(count)
-        if far > 4 * interval or 20 * far > 9 * interval and 4 * far * far > 9 * square:
+        """The same, at most; CANNOT if it is off by too much for that many elements."""
+        far, interval, late = self.deviation(rise, later, count), self.interval(rise, later), self.late(rise, later, count)
+        if far > 4 * interval or 20 * far > 9 * interval and late > 72:
             return CANNOT
-        return min(32 * far * far // square, OFF_LINE)
+        return min(late, OFF_LINE)
 
     def fewest(self, rise: int, later: int) -> int:
         """No step goes over fewer elements than that, except one in time."""
@@ -208,22 +226,22 @@ class Prices:
                 found.setdefault(count % self.elements, count)
         return found
 
+    def on(self, rise: int, later: int, count: int) -> Tuple[int, int, int]:
+        """What a step over that many elements costs from an element of each role."""
+        off, wire, least = self.off(rise, later, count), self.wire(rise, later, count), self.least(rise, later)
+        return max(wire[0] + off, least[0]), max(wire[1] + off, least[1]), max(wire[2] + off, least[2])
+
     def price(self, rise: int, element: int, later: int, other: int, kind: str) -> int:
         """What a step costs from a rise and its element to a later one."""
-        role, gone = self.roles[element], self.gone(rise, later)
-        short = self.as_roles(self.look(rise, self.end(rise, later)))[role]
+        role = self.roles[element]
         if kind == JUMPS:
-            return short + JUMP + self.between(rise, later, gone)
+            return self.least(rise, later)[role] + JUMP
         ahead = (other - element) % self.elements
         if kind == STEPS:
-            on = ahead in (1 % self.elements, gone % self.elements)
-            return short + STEP + self.between(rise, later, gone) if on else CANNOT
+            on = ahead in (1 % self.elements, self.gone(rise, later) % self.elements)
+            return self.least(rise, later)[role] + STEP if on else CANNOT
         count = self.counts(rise, later).get(ahead)
-        if count is None:
-            return CANNOT
-        if count == 1:
-            return self.as_roles(self.look(rise, self.rises[later]))[role] + self.off(rise, later, 1)
-        return short + self.off(rise, later, count) + self.between(rise, later, count)
+        return CANNOT if count is None else self.on(rise, later, count)[role]
 
 
 def in_order(costs: Sequence[int]) -> List[int]:
@@ -235,17 +253,10 @@ Way = Tuple[str, int, Tuple[int, int, int]]  # a kind, how many elements (0: any
 
 def ways(prices: Prices, rise: int, later: int) -> List[Way]:
     """All steps from a rise to a later one, as `price` has them."""
-    gone = prices.gone(rise, later)
-    short, passed = prices.as_roles(prices.look(rise, prices.end(rise, later))), prices.between(rise, later, gone)
-    found = [dearer(JUMPS, 0, short, JUMP + passed)]
-    found += [dearer(STEPS, count, short, STEP + passed) for count in sorted({1, gone})]
-    for count in prices.counts(rise, later).values():
-        if count == 1:
-            whole = prices.as_roles(prices.look(rise, prices.rises[later]))
-            found.append(dearer(NEXT, 1, whole, prices.off(rise, later, 1)))
-        else:
-            found.append(dearer(NEXT, count, short, prices.off(rise, later, count) + prices.between(rise, later, count)))
-    return found
+    least = prices.least(rise, later)
+    found = [dearer(JUMPS, 0, least, JUMP)]
+    found += [dearer(STEPS, count, least, STEP) for count in sorted({1, prices.gone(rise, later)})]
+    return found + [(NEXT, count, prices.on(rise, later, count)) for count in prices.counts(rise, later).values()]
 
 
 def dearer(kind: str, count: int, look: Tuple[int, int, int], more: int) -> Way:
@@ -292,15 +303,15 @@ class Tables:
         return self.known[rise, later]
 
     def least(self, rise: int, later: int) -> int:
-        """What any step costs at least, without the look of the element."""
-        passed = self.prices.passed(rise, later)
-        return min(SKIP * passed, NOTHING * max(1, self.prices.fewest(rise, later) - 1)) if passed else 0
+        """What any step costs at least, without the look of the element. Of one element it is nothing."""
+        passed, fewest = self.prices.passed(rise, later), self.prices.fewest(rise, later)
+        return min(SKIP * passed, NOTHING * (fewest - 1)) if fewest > 1 else 0
 
     def far(self, rise: int, later: int) -> int:
         """What any step costs at least over the same rises, or over more."""
         passed, far = self.prices.passed(rise, later), PART * (self.prices.rises[later] - self.prices.rises[rise])
         fewest = far // self.prices.largest - (1 if self.prices.narrow > 12 else 6)
-        return min(SKIP * passed, NOTHING * min(8, max(1, fewest))) if passed else 0
+        return min(SKIP * passed, NOTHING * min(8, fewest - 1)) if fewest > 1 else 0
 
     def _before(self, later: int) -> List[int]:
         roles, size = self.prices.roles, self.prices.elements
