@@ -1,8 +1,9 @@
 -- The least cost of a step that gives an interval another place, as loops find it.
-use Rattle.std.proofs.Common.{◌≡◌, ◌+◌, ◌-◌, ◌≤◌, ◌⊎◌, ℕ, List, sym, subst, inl, inr, arith}
+use Rattle.std.proofs.Common.{◌≡◌, ◌+◌, ◌-◌, ◌<◌, ◌≤◌, ◌⊎◌, ℕ, List, sym, subst, inl, inr, arith}
 use Rattle.irig_explain.specs.declared.{asked.Asked.Asked, rises.Rises.Rises, nodes.Node.Node}
 use Rattle.irig_explain.specs.Bounds.{Elsewhere, ElsewhereBetween, IsOver, Steps}
-use Rattle.irig_explain.specs.{Explanation.Price, Nodes.IsCost, Turned.turned, Ways.OtherKind, Ways.OtherWay}
+use Rattle.std.specs.List.{Contains}
+use Rattle.irig_explain.specs.{Explanation.Price, Nodes.AreNodes, Nodes.IsCost, Turned.turned, Ways.OtherKind, Ways.OtherWay}
 use Rattle.irig_explain.proofs.ReadBack.{below_cost}
 
 -- no steps have been looked at yet
@@ -69,4 +70,32 @@ other_between price place rises before after a r e q f x y spent total over star
   start = start;
   end = end;
   exact = omega (arith, other.exact, paid);
+}
+
+-- none of them, if what comes after costs as much
+pub elsewhere_after : (price place : Price) (rises : Rises) (before after : List Node) (a : Asked) (q f y bound : ℕ)
+    → IsCost (turned price rises.count) rises after (rises.count - 1 - q) f y → bound ≤ y
+    → Elsewhere price place rises before after a (λ r2 e2 q2 f2. (q2 ≡ q) × (f2 ≡ f)) bound
+elsewhere_after price place rises before after a q f y bound end le = record {
+  least = λ r2 e2 q2 f2 k x2 y2 step over unlike start2 end2.
+      let low = subst (λ n. IsCost (turned price rises.count) rises after (rises.count - 1 - n) f2 y) (sym step.0)
+      (subst (λ n. IsCost (turned price rises.count) rises after (rises.count - 1 - q) n y) (sym step.1) end) in
+      let le2 = below_cost (turned price rises.count) rises after (rises.count - 1 - q2) f2 low.way.cost y2 low.is.low end2 in
+      omega (arith, le, le2, low.exact);
+}
+
+-- nor of those from a rise, if it does with the cheapest claim of that
+pub elsewhere_from : (price place : Price) (rises : Rises) (before after : List Node) (a : Asked) (r q f low y bound : ℕ)
+    → AreNodes price rises rises.count before → r < rises.count → ((n : Node) → Contains before n → n.rise ≡ r → low ≤ n.cost)
+    → IsCost (turned price rises.count) rises after (rises.count - 1 - q) f y → bound ≤ low + y
+    → Elsewhere price place rises before after a (λ r2 e2 q2 f2. (r2 ≡ r) × (q2 ≡ q) × (f2 ≡ f)) bound
+elsewhere_from price place rises before after a r q f low y bound are there least end le = record {
+  least = λ r2 e2 q2 f2 k x2 y2 step over unlike start2 end2.
+      let known = are.known r e2 there over.start in
+      let start = subst (λ n. IsCost price rises before n e2 x2) step.0 start2 in
+      let cheap = below_cost price rises before r e2 known.costs.way.cost x2 known.costs.is.low start in
+      let after2 = subst (λ n. IsCost (turned price rises.count) rises after (rises.count - 1 - n) f2 y) (sym step.1)
+      (subst (λ n. IsCost (turned price rises.count) rises after (rises.count - 1 - q) n y) (sym step.2) end) in
+      let le2 = below_cost (turned price rises.count) rises after (rises.count - 1 - q2) f2 after2.way.cost y2 after2.is.low end2 in
+      omega (arith, le, le2, after2.exact, cheap, known.costs.exact, known.cheap, least known.node known.there known.beside);
 }

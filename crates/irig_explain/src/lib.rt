@@ -8,6 +8,7 @@ mod clock;
 mod costs;
 mod ends;
 mod explanation;
+mod lowest;
 mod near;
 mod nodes;
 mod over;

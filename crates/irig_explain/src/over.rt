@@ -9,6 +9,7 @@ use crate::asked::Asked;
 use crate::bounds::with_step;
 use crate::claim::{Claim, Kind};
 use crate::costs::{Costs, Places};
+use crate::lowest::lowest_of;
 use crate::near::{Near, nodes_near};
 use crate::tables::Tables;
 use crate::turned::Turned;
@@ -81,6 +82,9 @@ impl<'a, C: Costs + Places> Tables<'a, C> {
             self.now.rises self.now.before.items self.now.after.items asked result }
     {
         let rest = self.cost_after(to);
+        if best <= rest {
+            return best;
+        }
         let mut least = best;
         for rise in to.rise.saturating_sub(self.rises.window)..asked.interval + 1 {
             least = self.with_steps_from_rise(rise, to, rest, asked, least);
@@ -117,6 +121,10 @@ impl<'a, C: Costs + Places> Tables<'a, C> {
             ⊎ OtherWay (C.price self.now.costs.now) (C.place self.now.costs.now)
             self.now.rises self.now.before.items self.now.after.items asked result }
     {
+        let low = lowest_of(self.before.as_slice(), rise, best).saturating_add(rest);
+        if best <= low {
+            return best;
+        }
         let near = nodes_near(self.rises.window, self.before.as_slice(), rise);
         let mut least = best;
         for element in 0..self.rises.states {

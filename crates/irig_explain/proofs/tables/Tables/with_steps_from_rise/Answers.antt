@@ -1,7 +1,7 @@
-use Rattle.std.proofs.Common.{refl, ◌≡◌, ◌⊎◌, ◌+◌, ◌<◌, ℕ, sym, subst, inl, inr, arith}
+use Rattle.std.proofs.Common.{refl, ◌≡◌, ◌⊎◌, ◌+◌, ◌<◌, ◌≤◌, ℕ, sym, subst, inl, inr, arith}
 use Rattle.std.proofs.lemmas.Bool.{cases_lt}
 use Rattle.irig_explain.specs.{Bounds.IsOver, Ways.OtherWay}
-use Rattle.irig_explain.proofs.Elsewhere.{elsewhere_none, elsewhere_more, elsewhere_all, elsewhere_between, other_between}
+use Rattle.irig_explain.proofs.Elsewhere.{elsewhere_none, elsewhere_more, elsewhere_all, elsewhere_between, elsewhere_from, other_between}
 use Rattle.irig_explain.proofs.tables.Tables.with_steps_from_rise.Goals as goal
 
 pub loop-element-init : goal.loop-element-init
@@ -47,3 +47,12 @@ returns-clause-least g c =
     elsewhere_all _ _ _ _ _ _ (λ r e q f. (r ≡ c.args.rise) × (e < c.loop-element.element) × (q ≡ c.args.to.rise) × (f ≡ c.args.to.element))
     (λ r e q f. (r ≡ c.args.rise) × (q ≡ c.args.to.rise) × (f ≡ c.args.to.element)) _ c.loop-element.invariant.least
     (λ r e q f over here. let start = over.start in (here.0, omega (arith, c.loop-element-test.false), here.1, here.2))
+
+pub returns-then-best-low-clause-least : goal.returns-then-best-low-clause-least
+returns-then-best-low-clause-least g c =
+    let low = c.lowest_of.result in let rest = c.args.rest in
+    let enough : c.args.best ≤ low + rest = omega (arith, c.if-best-low.true, c.saturating_add-low.ensures) in
+    elsewhere_from (g.C.Costs.price c.args.self.now.costs.now) (g.C.Places.place c.args.self.now.costs.now) c.args.self.now.rises
+    c.args.self.now.before.items c.args.self.now.after.items c.args.asked c.args.rise c.args.to.rise c.args.to.element low rest c.args.best
+    c.requires.full.before_least (let early = c.requires.early in let late = c.requires.late in let there = c.requires.there in omega arith)
+    (rw c.as_slice.ensures.value at c.lowest_of.ensures.low) c.requires.rest enough

@@ -1,7 +1,7 @@
 use Rattle.std.proofs.Common.{refl, ◌≡◌, ◌⊎◌, ◌+◌, ◌<◌, ℕ, sym, subst, inl, inr, arith}
 use Rattle.std.proofs.lemmas.Bool.{cases_lt}
 use Rattle.irig_explain.specs.Ways.{OtherWay}
-use Rattle.irig_explain.proofs.Elsewhere.{elsewhere_none, elsewhere_more, elsewhere_all}
+use Rattle.irig_explain.proofs.Elsewhere.{elsewhere_after, elsewhere_none, elsewhere_more, elsewhere_all}
 use Rattle.irig_explain.proofs.tables.Tables.with_steps_to.Goals as goal
 
 pub loop-rise-init : goal.loop-rise-init
@@ -31,3 +31,9 @@ returns-clause-least g c =
     elsewhere_all _ _ _ _ _ _ (λ r e q f. (r < c.loop-rise.rise) × (q ≡ c.args.to.rise) × (f ≡ c.args.to.element))
     (λ r e q f. (q ≡ c.args.to.rise) × (f ≡ c.args.to.element)) _ c.loop-rise.invariant.least
     (λ r e q f over here. let early = over.early in (omega (arith, c.loop-rise-test.false), here.0, here.1))
+
+pub returns-then-best-rest-clause-least : goal.returns-then-best-rest-clause-least
+returns-then-best-rest-clause-least g c =
+    elsewhere_after (g.C.Costs.price c.args.self.now.costs.now) (g.C.Places.place c.args.self.now.costs.now) c.args.self.now.rises
+    c.args.self.now.before.items c.args.self.now.after.items c.args.asked c.args.to.rise c.args.to.element c.cost_after-rest.result c.args.best
+    c.cost_after-rest.ensures.cost c.if-best-rest.true
