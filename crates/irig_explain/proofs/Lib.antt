@@ -1,4 +1,10 @@
 pub mod Members
+pub mod Halved
+pub mod Counts
+pub mod Counted
+pub mod Pruning
+pub mod Placing
+pub mod Cheapest
 pub mod LeastWays
 pub mod Growing
 pub mod EndsSoFar

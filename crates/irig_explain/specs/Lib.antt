@@ -8,4 +8,13 @@ pub mod Sure
 pub mod Turned
 pub mod Bounds
 pub mod Ways
+pub mod Looks
 pub mod Middles
+pub mod Missing
+pub mod Clocks
+pub mod Folds
+pub mod Distances
+pub mod Wires
+pub mod Priced
+pub mod Labels
+pub mod Recorded

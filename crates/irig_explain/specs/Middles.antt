@@ -10,7 +10,7 @@ pub record IsMiddle (xs : List ℕ) (x : ℕ) : Type 0 where
   pub middle : slice_index_or sorted (length xs / 2) 0 ≡ x
 
 -- those around a place: as many before it as after it, or the first or last ones, or all
-abbrev pub around : ℕ → List ℕ → ℕ → List ℕ
+abbrev pub around : {X : Type 0} → ℕ → List X → ℕ → List X
 around reach xs i = take (2 * reach + 1) (drop (min (i - reach) (length xs - (2 * reach + 1))) xs)
 
 -- each is the middle one of those around its place

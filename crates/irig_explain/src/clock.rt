@@ -1,41 +1,18 @@
-//! The clock of a recording: of the distances around each rise the middle one.
+//! The clock of a recording.
 
-ghost use Rattle.std.specs.Prelude.{◌≡◌, ◌^◌, ◌<◌, IfOk, length};
-ghost use Rattle.irig_explain.specs.Middles.{AreMiddles, IsMiddle, around};
+ghost use Rattle.std.specs.Prelude.{◌^◌, ◌<◌, ◌≤◌, All};
 
-use std::alloc::{AllocError, Global};
-
-/// For each of some distances the middle one of those around it: `reach` before it, as many after
-/// it, and itself. At an end they are the first or last ones, and all if there are fewer.
-pub fn middles(alloc: Global, distances: &[u64], reach: usize) -> Result<Vec<u64>, AllocError>
-    requires { reach < 2 ^ 31 }
-    ensures { IfOk result (λ middles. AreMiddles reach distances.now middles.items) }
-{
-    let mut middles = Vec::new(alloc);
-    for place in 0..distances.len() {
-        let middle = middle(alloc, nearest(distances, reach, place))?;
-        middles.push(middle)?;
-    }
-    Ok(middles)
-}
-
-/// The distances around one.
-fn nearest(distances: &[u64], reach: usize, place: usize) -> &[u64]
-    requires there { place < length distances.now }
-    requires few { reach < 2 ^ 31 }
-    ensures { result.now ≡ around reach distances.now place }
-{
-    let count = (2 * reach + 1).min(distances.len());
-    let start = place.saturating_sub(reach).min(distances.len() - count);
-    &distances[start..start + count]
-}
-
-/// The middle one of some distances; of an even number the later one of both.
-fn middle(alloc: Global, distances: &[u64]) -> Result<u64, AllocError>
-    requires { 0 < length distances.now }
-    ensures { IfOk result (λ middle. IsMiddle distances.now middle) }
-{
-    let mut sorted = Vec::from_slice(alloc, distances)?;
-    sorted.sort()?;
-    Ok(sorted[sorted.len() / 2])
+/// The interval at each rise, and how far rises and widths usually are off, in parts of a
+/// microsecond.
+#[derive(Drop)]
+pub struct Clock {
+    pub intervals: Vec<u64>,
+    /// No interval is longer.
+    pub longest: u64,
+    pub spread: u64,
+    pub width_spread: u64,
+    ghost steady: { All (λ i. (0 < i) × (i ≤ longest)) intervals.items },
+    ghost short: { longest < 2 ^ 27 },
+    ghost some_spread: { (0 < spread) × (spread < 2 ^ 32) },
+    ghost some_width: { (0 < width_spread) × (width_spread < 2 ^ 32) },
 }

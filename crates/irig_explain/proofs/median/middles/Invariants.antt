@@ -1,6 +1,6 @@
 use Rattle.std.proofs.Common.{◌≡◌, ◌<◌, ℕ, length, slice_index_or}
 use Rattle.irig_explain.specs.Middles.{IsMiddle, around}
-use Rattle.irig_explain.proofs.clock.middles.Given as goal
+use Rattle.irig_explain.proofs.median.middles.Given as goal
 
 -- those of the places so far
 abbrev pub invariant-loop-place : goal.invariant-loop-place
