@@ -6,6 +6,7 @@ use Rattle.irig_times.specs.declared.time.Time.{Time}
 use Rattle.irig_codes.specs.Format.{FormatView}
 use Rattle.irig_codes.specs.declared.format.Kind.TheVariants.{B}
 use Rattle.irig_law.specs.{Bound.rate_of, Bound.units_of, Bridge.off, Elements.element_after, Elements.element_before, Hop.hop, Names.seen}
+use Rattle.irig_law.specs.Calendar.{micros_after}
 use Rattle.irig_law.specs.Hours.{earlier_in_hour, later_in_hour}
 use Rattle.irig_law.specs.declared.{clock.Clock.Clock, frame.Frame.Frame}
 use Rattle.irig_law.specs.declared.names.Seen.{Seen}
@@ -71,3 +72,22 @@ element_back = refl
 -- and none is known in the next hour
 pub no_element : element_after format (record { marker = 300; time = at 59 59000000 }) 100 ≡ None
 no_element = refl
+
+-- over midnight, over the end of a year of 366 days that is known and of one that is not, and out of a second 60; back it is none
+abbrev moment : Option ℕ → ℕ → ℕ → ℕ → ℕ → Time
+moment year days hours minutes micros = record { year = year; days = days; hours = hours; minutes = minutes; micros = micros }
+
+pub midnight : micros_after 20 (moment None 61 23 59 59000000) (moment None 62 0 0 1000000) ≡ 2000000
+midnight = refl
+
+pub leap_year : micros_after 20 (moment (Some 24) 366 23 59 59000000) (moment (Some 25) 1 0 0 0) ≡ 1000000
+leap_year = refl
+
+pub any_year : micros_after 20 (moment None 365 23 59 59000000) (moment None 1 0 0 0) ≡ 1000000
+any_year = refl
+
+pub second_60 : micros_after 20 (moment None 181 23 59 60000000) (moment None 182 0 0 0) ≡ 1000000
+second_60 = refl
+
+pub not_later : micros_after 20 (moment (Some 24) 61 12 0 0) (moment (Some 24) 61 11 59 0) ≡ 0
+not_later = refl

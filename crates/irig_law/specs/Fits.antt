@@ -1,26 +1,24 @@
 -- When two frames fit each other, so that no event is between them. This project's own.
-use Rattle.std.specs.Prelude.{◌≡◌, ◌⊎◌, ℕ, ◌+◌, ◌-◌, ◌*◌, ◌/◌, ◌%◌, ◌≤◌, ◌==◌, ◌&&◌, nat_lt, Bool}
-use Rattle.std.specs.Prelude.{List, Option, Some, None, if◌then◌else◌}
+use Rattle.std.specs.Prelude.{◌≡◌, ◌⊎◌, ℕ, ◌+◌, ◌*◌, ◌/◌, ◌%◌, ◌^◌, ◌≤◌, ◌==◌, ◌&&◌, nat_lt, List}
+use Rattle.std.specs.Prelude.{Option, Some, None, if◌then◌else◌}
 use Rattle.irig_codes.specs.Format.{FormatView, frame_period_of}
 use Rattle.irig_recording.specs.declared.pulse.Pulse.{Pulse}
-use Rattle.irig_times.specs.{Follows.same_day, Jumps.are_apart, NextTimes.day_micros}
 use Rattle.irig_times.specs.{Torn.micros_between, declared.time.Time.Time}
+use Rattle.irig_law.specs.Calendar.{micros_after}
 use Rattle.irig_law.specs.{Clocks.apart, Clocks.slack_of, Clocks.span_of}
 use Rattle.irig_law.specs.{Denials.seen_after, Denials.seen_before}
 use Rattle.irig_law.specs.declared.frame.Frame.{Frame}
 use Rattle.irig_law.specs.declared.names.Seen.TheVariants.{Named}
 
--- how many periods one time is after another: one or two by the calendar, more on one day
-abbrev pub in_day : ℕ → Time → Time → Option ℕ
-in_day period a b =
-    if same_day a b && (nat_lt (day_micros a) (day_micros b)
-    && ((day_micros b - day_micros a) % period == 0))
-    then Some ((day_micros b - day_micros a) / period) else None
+-- how many periods one time is after another by the calendar, if they are whole ones; a recording
+-- is shorter than 2^40 microseconds
+abbrev pub periods_in : ℕ → ℕ → Option ℕ
+periods_in period micros =
+    if nat_lt 0 micros && (nat_lt micros (2 ^ 40) && (micros % period == 0))
+    then Some (micros / period) else None
 
 abbrev pub periods_apart : ℕ → ℕ → Time → Time → Option ℕ
-periods_apart century period a b =
-    if are_apart century period 1 a b then Some 1
-    else (if are_apart century period 2 a b then Some 2 else in_day period a b)
+periods_apart century period a b = periods_in period (micros_after century a b)
 
 -- two markers are n periods apart by the clock of both frames, to half an interval
 abbrev pub IsNear : List Pulse → Frame → Frame → ℕ → Type 0

@@ -1,6 +1,7 @@
 pub mod Bound
 pub mod Bridge
 pub mod BridgeTruth
+pub mod Calendar
 pub mod Clocks
 pub mod Denials
 pub mod Elements

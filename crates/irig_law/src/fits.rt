@@ -5,47 +5,41 @@
 ghost use Rattle.std.specs.Prelude.{◌≡◌, ◌↔◌, ◌<◌, ◌≤◌, ◌+◌, ◌-◌, ◌^◌, ℕ, IsTrue, MatchOption};
 ghost use Rattle.std.specs.Prelude.{Some, length, slice_get};
 ghost use Rattle.irig_law.specs.Clocks.{slack_of};
-ghost use Rattle.irig_law.specs.Fits.{Fits, IsNear, in_day, periods_apart};
+ghost use Rattle.irig_law.specs.Fits.{Fits, IsNear, periods_apart, periods_in};
 ghost use Rattle.irig_law.specs.Seens.{MeetAt, SeenAfter, SeenBefore};
 
+use crate::calendar::micros_after;
 use crate::clocks::span_of;
 use crate::frame::Frame;
 use crate::names::Seen;
 use crate::row::micros_between;
 use crate::seens::seen_at;
 use irig_codes::Format;
-use irig_times::{Time, are_apart, day_micros, same_day};
+use irig_times::Time;
 use irig_track::Lens;
 
-/// How many periods one time is after another on one day, if it is a whole number of them.
-fn in_day(period: u64, from: &Time, to: &Time) -> Option<u64>
+/// A recording is shorter, in microseconds.
+const LONGEST: u128 = 1 << 40;
+
+/// How many periods some microseconds are, if they are whole ones.
+fn periods_in(period: u64, micros: u128) -> Option<u64>
     requires some { 0 < period }
-    requires times { (from.now.micros < 61000000) × (to.now.micros < 61000000) }
-    ensures { result ≡ in_day period from.now to.now }
+    ensures { result ≡ periods_in period micros }
 {
-    let first = day_micros(from);
-    let last = day_micros(to);
-    if same_day(from, to) && first < last && (last - first) % period == 0 {
-        Some((last - first) / period)
+    if 0 < micros && micros < LONGEST && micros % period as u128 == 0 {
+        Some(micros as u64 / period)
     } else {
         None
     }
 }
 
-/// How many periods one time is after another: one or two by the calendar, more on one day.
+/// How many periods one time is after another, by the calendar.
 fn periods_apart(century: u32, period: u64, from: &Time, to: &Time) -> Option<u64>
     requires century { century ≤ 99 }
-    requires period { (0 < period) × (period < 2 ^ 25) }
-    requires times { (from.now.micros < 61000000) × (to.now.micros < 61000000) }
+    requires some { 0 < period }
     ensures { result ≡ periods_apart century period from.now to.now }
 {
-    if are_apart(century, period, 1, from, to) {
-        return Some(1);
-    }
-    if are_apart(century, period, 2, from, to) {
-        return Some(2);
-    }
-    in_day(period, from, to)
+    periods_in(period, micros_after(century, from, to))
 }
 
 /// Whether two markers are this many periods apart by the clock of both frames, to half an

@@ -3,6 +3,7 @@
 
 mod bound;
 mod bridge;
+mod calendar;
 mod clock;
 mod clocks;
 mod denials;
