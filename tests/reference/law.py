@@ -10,14 +10,13 @@ was lost.
 from bisect import bisect_right
 from collections import Counter
 from fractions import Fraction
-from itertools import combinations
 from typing import NamedTuple
 
 from reference import timecode, times
 from reference.times import HOUR, LONG_MINUTE, MINUTE, PERIOD, TIME_ELEMENTS, Time
 
 MORE = 2  # times the frames of the other story that a story has more than, if two are mixed and it is believed
-FARTHEST = 495  # periods up to which two frames can agree
+FARTHEST = 495  # periods up to which two frames can agree, and rows up to which two are of one story
 COUNTED = 100  # pulses that an end of the recording has at most
 SHOWING = 2  # pulses that show on which side of an event another one is
 DOUBTING = 2  # pulses that deny, and take its time from a frame of the code
@@ -125,13 +124,14 @@ class Law:
 
     def trusted(self):
         """The frames of the rows that are not doubted, and whose story has more frames than one, or the only frame. The story of a row is
-        it and all rows that agree with it, the last frame of the one with the first of the other."""
+        it and all rows near it that agree with it, the last frame of the one with the first of the other."""
         rows = self.rows()
         stories = [{place} for place in range(len(rows))]
-        for one, other in combinations(range(len(rows)), 2):
-            if self.agree(rows[one][-1], rows[other][0]):
-                stories[one].add(other)
-                stories[other].add(one)
+        for one in range(len(rows)):
+            for other in range(one + 1, min(one + FARTHEST + 1, len(rows))):
+                if self.agree(rows[one][-1], rows[other][0]):
+                    stories[one].add(other)
+                    stories[other].add(one)
         sizes = [sum(len(rows[place]) for place in story) for story in stories]
         right = [place for place in range(len(rows)) if sizes[place] > 1 and not is_doubted(place, stories, sizes)]
         return self.fine if len(self.fine) == 1 else [frame for place in right for frame in rows[place]]

@@ -1,4 +1,7 @@
+mod Above
+mod AnyFrom
 mod Bridges
+mod ChainLists
 mod Denied
 mod Each
 mod EndsSaid

@@ -1,12 +1,15 @@
+pub mod Believed
 pub mod Bound
 pub mod Bridge
 pub mod BridgeTruth
 pub mod Calendar
+pub mod Chains
 pub mod Clocks
 pub mod Denials
 pub mod Elements
 pub mod EndPoints
 pub mod Ends
+pub mod Fine
 pub mod Fits
 pub mod Happened
 pub mod Hop
@@ -14,6 +17,7 @@ pub mod Hours
 pub mod Joins
 pub mod Law
 pub mod Names
+pub mod OfOne
 pub mod Points
 pub mod Printed
 pub mod Rows

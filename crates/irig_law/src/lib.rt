@@ -1,19 +1,24 @@
 //! The law of time: what a recording shows of the time of its pulses, and when that is true.
 #![tactic(auto)]
 
+mod believed;
 mod bound;
 mod bridge;
 mod calendar;
+mod chain;
+mod chains;
 mod clock;
 mod clocks;
 mod denials;
 mod ends;
+mod fine;
 mod fits;
 mod frame;
 mod happened;
 mod hours;
 mod law;
 mod names;
+mod of_one;
 mod point;
 mod points;
 mod row;
@@ -21,6 +26,7 @@ mod seens;
 mod sides;
 mod stretch;
 
+pub use believed::believed_frames;
 pub use bound::bound_between;
 pub use bridge::{Bridge, bridge_over};
 pub use clock::{Clock, hop_over};
@@ -28,6 +34,6 @@ pub use frame::Frame;
 pub use law::times_are_true;
 pub use names::{Seen, names_in};
 pub use point::Point;
-pub use points::points_of;
+pub use points::{points_of, track_points};
 pub use row::Row;
 pub use sides::{Sides, sides_of};

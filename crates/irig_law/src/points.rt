@@ -4,18 +4,50 @@
 ghost use Rattle.std.specs.Prelude.{◌≡◌, ◌↔◌, ◌<◌, ◌≤◌, ◌+◌, ◌^◌, ℕ, IfOk, OnOk, Some, length};
 ghost use Rattle.std.specs.Prelude.{slice_get};
 ghost use Rattle.irig_codes.specs.declared.fields.Fields.{Fields};
+ghost use Rattle.irig_index.specs.Frames.{frames};
+ghost use Rattle.irig_law.specs.Believed.{believed};
 ghost use Rattle.irig_law.specs.Joins.{AreJoined, AreSaid, IsJoined};
 ghost use Rattle.irig_law.specs.Points.{AreFrames, IsPoint};
 ghost use Rattle.irig_law.specs.Printed.{printed, true_time};
 ghost use Rattle.irig_law.specs.Theorem.{Story};
 
+use crate::believed::believed_frames;
 use crate::ends::{begin_points, end_points};
 use crate::frame::Frame;
 use crate::point::{Point, said_by_both};
 use crate::stretch::stretch_points;
 use irig_codes::Format;
+use irig_times::FrameLens;
 use irig_track::Lens;
 use std::alloc::{AllocError, Global};
+
+/// Which element each pulse of a track is by the law of time, by the frames that are believed:
+/// `points_of` of `believed_frames`.
+pub fn track_points(
+    alloc: Global,
+    pulses: &mut Lens<'_>,
+    records: &mut FrameLens<'_>,
+    format: Format,
+    century: u32,
+) -> Result<Vec<Option<Point>>, AllocError>
+    requires century { century ≤ 99 }
+    requires frames { records.old.records ≡ frames format pulses.old.track.pulses }
+    ensures points { IfOk result (λ list. (k : ℕ) (x : Point)
+        → (slice_get list.items k ≡ Some (Some x))
+        ↔ IsPoint format century pulses.old.track.pulses
+        (believed format century pulses.old.track.pulses) k x) }
+    ensures true_times { IfOk result (λ list. (name : ℕ → ℕ) (sent : ℕ → Fields)
+        → Story format century pulses.old.track.pulses
+        (believed format century pulses.old.track.pulses) name sent
+        → (k : ℕ) (x : Point) → slice_get list.items k ≡ Some (Some x)
+        → printed format x ≡ true_time format sent (name k)) }
+    ensures pulses { pulses.new.track ≡ pulses.old.track }
+    ensures same { records.new.records ≡ records.old.records }
+{
+    let frames = believed_frames(alloc, pulses, records, format, century)?;
+    let list = points_of(alloc, pulses, &frames, format, century)?;
+    Ok(list)
+}
 
 /// Which element each pulse of a recording is by the law of time; `None`, or no place, for a pulse
 /// of which it is not known. `frames` are the frames that are believed, in order. Fails only if
