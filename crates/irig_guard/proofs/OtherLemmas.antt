@@ -1,6 +1,6 @@
 -- The other recordings of the settings, one by one.
 use Rattle.std.proofs.Common.{◌≡◌, ◌∙◌, ◌+◌, ◌<◌, ◌≤◌, ◌==◌, ℕ, zero, suc, Bool, true, false, List, [], ◌∷◌, Option, Some, None}
-use Rattle.std.proofs.Common.{add-one, ap, arith, drop, drop-cons, inl, length, map, refl, slice_get, subst, sym}
+use Rattle.std.proofs.Common.{add-one, ap, arith, drop, drop-cons, inr, length, map, refl, slice_get, subst, sym}
 use Rattle.std.specs.Prelude.{IfSome, option_map, unwrap_or}
 use Rattle.std.proofs.lemmas.Bool.Decides.{nat_tests}
 use Rattle.irig_disk.specs.Disk.{Disk}
@@ -18,7 +18,7 @@ use Rattle.irig_safety.specs.Terms.{TermsView}
 pub unusable_by_dump : (held : Option (List ℕ)) (unread : DumpFileFault → Type 0) (source : List ℕ) (why : OtherFault) → IfSome held (λ all. source ≡ all)
     → IsUnusableDump source why → IsUnusable held unread why
 unusable_by_dump held unread source (Dump fault) whole is = (source, whole, is)
-unusable_by_dump held unread source (File fault) whole is = inl is
+unusable_by_dump held unread source (File fault) whole is = inr (source, whole, is)
 
 -- the path at a place
 pub path_at : (given : List (Bor (List ℕ))) (i : ℕ) (p : Bor (List ℕ)) → slice_get given i ≡ Some p → slice_get (paths given) i ≡ Some p.now

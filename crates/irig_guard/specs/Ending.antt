@@ -1,7 +1,8 @@
 -- What the program does for the words of its command line: from the files and the script to what is
 -- printed and written. This project's own.
-use Rattle.std.specs.Prelude.{◌≡◌, ℕ, List, Option, Ok, Err, IfSome, is_some, true}
+use Rattle.std.specs.Prelude.{◌≡◌, ℕ, List, Option, Some, None, Ok, Err, IfSome, is_some, true}
 use Rattle.clap.specs.Words.{Text}
+use Rattle.irig_files.specs.declared.dump_file.DumpFileFault.{DumpFileFault}
 use Rattle.irig_files.specs.Tracks.{IsUnreadOrShort}
 use Rattle.irig_guard.specs.declared.chosen.Settings.{Settings}
 use Rattle.irig_guard.specs.declared.ending.Ending.TheVariants.{Usage, Unread, Over, Unknown}
@@ -38,6 +39,11 @@ Obeys given old new chosen (UnusableOther path why) =
     IsUntouched given old new × IsOther chosen path.now
     × IsUnusable (given.held path.now) (given.unread path.now) why
 Obeys given old new chosen (Usage fault) = ⊥
+
+-- the fault for which the track was not read
+abbrev pub unread_fault : Ending → Option DumpFileFault
+unread_fault (Unread path fault) = Some fault
+unread_fault ending = None
 
 -- The settings are those of the words, and they were obeyed. However that ended, a crash at any
 -- moment leaves at the places of the dump and of the other recordings what was there.

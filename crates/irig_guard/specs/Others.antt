@@ -1,10 +1,10 @@
 -- The other recordings that the settings name. This project's own.
-use Rattle.std.specs.Prelude.{◌≡◌, ℕ, List, [], ◌∷◌, Option, Some, None, IfSome, slice_get}
+use Rattle.std.specs.Prelude.{◌≡◌, ◌⊎◌, ℕ, List, [], ◌∷◌, Option, Some, None, IfSome, IsOk, slice_get}
 use Rattle.irig_codes.specs.Format.{FormatView}
 use Rattle.irig_edit.specs.Opened.Openings.{IsUnopened, MayBeShort}
 use Rattle.irig_files.specs.declared.dump_file.DumpFileFault.{DumpFileFault}
 use Rattle.irig_files.specs.declared.dump_file.DumpFileFault.TheVariants as file
-use Rattle.irig_files.specs.Tracks.{IsUnreadOrShort}
+use Rattle.irig_files.specs.Tracks.{IsUnread}
 use Rattle.irig_guard.specs.declared.chosen.Settings.{Settings}
 use Rattle.irig_guard.specs.declared.other_fault.OtherFault.{OtherFault}
 use Rattle.irig_guard.specs.declared.other_fault.OtherFault.TheVariants.{Dump, File}
@@ -35,13 +35,15 @@ abbrev pub FailsToOpen : List ℕ → VcdFault → Type 0
 FailsToOpen source fault = IsUnopened None source fault
     × (fault ≡ OutOfMemory → MayBeShort (dump_parts None source))
 
--- the bytes of a dump cannot be used: it is not opened, or memory ran out
+-- the bytes of a dump cannot be used: it is not opened, or it was read and memory ran out then
 abbrev pub IsUnusableDump : List ℕ → OtherFault → Type 0
 IsUnusableDump source (Dump fault) = FailsToOpen source fault
-IsUnusableDump source (File fault) = fault ≡ file.OutOfMemory
+IsUnusableDump source (File fault) = (fault ≡ file.OutOfMemory) × IsOk (dump_parts None source)
 
--- a file cannot be used: it is not read, or its dump is not opened, or memory ran out
+-- a file cannot be used: it is not read, for the fault of the call that reads it, or its bytes are
+-- not
 abbrev pub IsUnusable : Option (List ℕ) → (DumpFileFault → Type 0) → OtherFault → Type 0
 IsUnusable held unread (Dump fault) =
-    (source : List ℕ) × IfSome held (λ all. source ≡ all) × FailsToOpen source fault
-IsUnusable held unread (File fault) = IsUnreadOrShort None held unread fault
+    (source : List ℕ) × IfSome held (λ all. source ≡ all) × IsUnusableDump source (Dump fault)
+IsUnusable held unread (File fault) = IsUnread None held unread fault
+    ⊎ ((source : List ℕ) × IfSome held (λ all. source ≡ all) × IsUnusableDump source (File fault))

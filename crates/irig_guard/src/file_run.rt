@@ -1,9 +1,9 @@
 //! A script run under guard on the file of a dump, as the words of a command line ask.
 
-ghost use Rattle.std.specs.Prelude.{map, string_bytes};
-ghost use Rattle.irig_guard.specs.Ending.{EndsBy, Obeys};
+ghost use Rattle.std.specs.Prelude.{IfSome, map, string_bytes};
+ghost use Rattle.irig_guard.specs.Ending.{EndsBy, Obeys, unread_fault};
 ghost use Rattle.irig_guard.specs.Given.{AreSpared, ends, files};
-ghost use Rattle.irig_files.specs.Puts.{writes_on};
+ghost use Rattle.irig_files.specs.{Puts.writes_on, Tracks.IsUnread};
 
 use crate::chosen::Settings;
 use crate::command_line::settings;
@@ -70,6 +70,8 @@ fn run_with_room<'a, D: Disk, R: Read, W: Write>(
         (ends (W.contents out.new) (writes_on D.is_told (D.disk disk.new)) (R.remaining script.new))
         chosen.now result }
     ensures spared { AreSpared D.is_told (D.disk disk.old) (D.disk disk.new) chosen.now }
+    ensures unread { IfSome (unread_fault result) (IsUnread chosen.now.window
+        (D.held disk.old chosen.now.track.now) (D.unread disk.old chosen.now.track.now)) }
 {
     match read_in_window(alloc, disk, chosen.track, chosen.wire, chosen.window) {
         Ok(read) => run_if_apart(alloc, chosen, read, room, disk, script, out),

@@ -1,8 +1,8 @@
 //! A script run under guard on what was read of a dump.
 
-ghost use Rattle.std.specs.Prelude.{◌≡◌, ℕ, IfSome, IsTrue, List};
+ghost use Rattle.std.specs.Prelude.{◌≡◌, ℕ, IfSome, IsTrue, List, None};
 ghost use Rattle.irig_vcd.specs.{Answer.Gives, Window.parts_in};
-ghost use Rattle.irig_guard.specs.{Ending.Obeys, RunsBy.RunsBy};
+ghost use Rattle.irig_guard.specs.{Ending.Obeys, Ending.unread_fault, RunsBy.RunsBy};
 ghost use Rattle.irig_guard.specs.Given.{AreOthersApart, AreSpared, IsApart, ends, files};
 ghost use Rattle.irig_guard.specs.{Others.ShowsAll, Settings.paths};
 ghost use Rattle.irig_safety.specs.Terms.{without_others};
@@ -32,6 +32,7 @@ pub fn run_if_apart<'a, D: Disk, R: Read, W: Write>(
     out: &mut W,
 ) -> Ending<'a>
     requires { HasBytes (most_bytes chosen.now.window) read }
+    ensures read { unread_fault result ≡ None }
     ensures obeyed { (source : List ℕ)
         → Gives parts_of read (parts_in chosen.now.window (name_in chosen.now.wire) source)
         → IfSome (D.held disk.old chosen.now.track.now) (λ all. source ≡ all)
@@ -61,6 +62,7 @@ fn run_with_others<'a, D: Disk, R: Read, W: Write>(
 ) -> Ending<'a>
     requires few { HasBytes (most_bytes chosen.now.window) read }
     requires apart { IsTrue D.is_told → IsApart chosen.now (D.disk disk.old) }
+    ensures read { unread_fault result ≡ None }
     ensures obeyed { (source : List ℕ)
         → Gives parts_of read (parts_in chosen.now.window (name_in chosen.now.wire) source)
         → IfSome (D.held disk.old chosen.now.track.now) (λ all. source ≡ all)
