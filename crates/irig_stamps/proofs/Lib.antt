@@ -19,3 +19,4 @@ pub mod TableRows
 -- digits of times
 pub mod DigitParts
 pub mod PrintedDigits
+pub mod Units

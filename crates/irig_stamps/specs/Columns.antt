@@ -4,7 +4,8 @@ use Rattle.std.specs.Prelude.{Option, Some, None, if◌then◌else◌, take, dro
 use Rattle.std.specs.List.{suffix_len}
 use Rattle.irig_stamps.specs.declared.cutting.Until.{Until}
 use Rattle.irig_stamps.specs.declared.cutting.Until.TheVariants.{Blank, NonBlank, NonDigit, Byte}
-use Rattle.irig_stamps.specs.declared.cutting.Until.TheVariants.{Alphanumeric, NonLetter, NonZero}
+use Rattle.irig_stamps.specs.declared.cutting.Until.TheVariants.{Alphanumeric, NonAlphanumeric, NonZero}
+use Rattle.irig_stamps.specs.declared.cutting.Until.TheVariants.{Letter, Opening, Closing}
 
 -- the white space of a line: space, tab and carriage return
 abbrev pub is_space : ℕ → Bool
@@ -29,7 +30,10 @@ is_at NonDigit b = not (is_digit b)
 is_at (Byte c) b = b == c
 is_at NonZero b = not (b == 48)
 is_at Alphanumeric b = is_alphanumeric b
-is_at NonLetter b = not (is_letter b)
+is_at NonAlphanumeric b = not (is_alphanumeric b)
+is_at Letter b = is_letter b
+is_at Opening b = (b == 40) || (b == 91)
+is_at Closing b = (b == 41) || (b == 93)
 
 -- what is before the first such byte
 abbrev pub before : Until → List ℕ → List ℕ

@@ -51,14 +51,15 @@ is_micro name = is_part (codes "u") name || (is_part (codes "micro") name
     || (is_part (codes "mikro") name || (is_part (194 ∷ 181 ∷ []) name
     || (is_part (206 ∷ 188 ∷ []) name || is_part (181 ∷ []) name))))
 
--- 10^n picoseconds are the unit with this name
+-- 10^n femtoseconds are the unit with this name
 abbrev pub unit_places : List ℕ → Option ℕ
 unit_places name =
-    if is_second name then Some 12
-    else (if is_part (codes "m") name || is_part (codes "milli") name then Some 9
-    else (if is_micro name then Some 6
-    else (if is_part (codes "n") name || is_part (codes "nano") name then Some 3
-    else (if is_part (codes "p") name || is_part (codes "pico") name then Some 0 else None))))
+    if is_second name then Some 15
+    else (if is_part (codes "m") name || is_part (codes "milli") name then Some 12
+    else (if is_micro name then Some 9
+    else (if is_part (codes "n") name || is_part (codes "nano") name then Some 6
+    else (if is_part (codes "p") name || is_part (codes "pico") name then Some 3
+    else (if is_part (codes "f") name || is_part (codes "femto") name then Some 0 else None)))))
 
 -- the zeros of the number before a unit: of none, 1, 10 or 100
 abbrev pub zeros_of : List ℕ → Option ℕ
@@ -67,3 +68,9 @@ zeros_of (a ∷ []) = if a == 49 then Some 0 else None
 zeros_of (a ∷ b ∷ []) = if (a == 49) && (b == 48) then Some 1 else None
 zeros_of (a ∷ b ∷ c ∷ []) = if (a == 49) && ((b == 48) && (c == 48)) then Some 2 else None
 zeros_of (a ∷ b ∷ c ∷ d ∷ ds) = None
+
+-- that many zeros more
+abbrev pub with_zeros : Option ℕ → Option ℕ → Option ℕ
+with_zeros None unit = None
+with_zeros (Some zeros) None = None
+with_zeros (Some zeros) (Some unit) = Some (unit + zeros)

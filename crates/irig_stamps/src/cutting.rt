@@ -21,8 +21,14 @@ pub enum Until {
     NonZero,
     /// A letter or a digit.
     Alphanumeric,
-    /// Any byte that is no letter.
-    NonLetter,
+    /// Neither a letter nor a digit.
+    NonAlphanumeric,
+    /// A letter.
+    Letter,
+    /// An opening bracket.
+    Opening,
+    /// A closing one.
+    Closing,
 }
 
 impl Until {
@@ -37,7 +43,10 @@ impl Until {
             Until::Byte(one) => byte == one,
             Until::NonZero => byte != b'0',
             Until::Alphanumeric => is_alphanumeric(byte),
-            Until::NonLetter => !is_letter(byte),
+            Until::NonAlphanumeric => !is_alphanumeric(byte),
+            Until::Letter => is_letter(byte),
+            Until::Opening => matches!(byte, b'(' | b'['),
+            Until::Closing => matches!(byte, b')' | b']'),
         }
     }
 }

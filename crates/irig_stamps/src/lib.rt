@@ -29,6 +29,7 @@ mod table;
 mod taking;
 mod tally;
 mod text;
+mod unit_names;
 
 pub use aligning::align;
 pub use fault::{PrintFault, RunFault};

@@ -1,5 +1,5 @@
 use Rattle.std.proofs.Common.{length}
-use Rattle.irig_stamps.proofs.header_unit.+after_word.Given as goal
+use Rattle.irig_stamps.proofs.unit_names.+after_word.Given as goal
 
 abbrev pub decreases-after_word : goal.decreases-after_word
 decreases-after_word l = length l.word.now
