@@ -3,7 +3,9 @@ use Rattle.std.proofs.Common.{ℕ, List, Option, Some, None}
 use Rattle.std.specs.Prelude.{Ok}
 use Rattle.irig_stamps.specs.{Aligned.Aligns, declared.outcome.Outcome.Outcome}
 use Rattle.irig_time.specs.declared.ending.Ending.TheVariants.{Usage, Unread, Aligned, Listed, Timeless, Doubted, Broken}
-use Rattle.irig_time.specs.{Done.EndsAs, Ending.AlignsAs, declared.chosen.Chosen.Chosen, declared.ending.Ending.Ending}
+use Rattle.irig_time.specs.declared.ending.Ending.TheVariants.{OverLines, OverTrack, Unknown, Unwritten}
+use Rattle.irig_time.specs.{Done.EndsAs, Runs.AlignsAs}
+use Rattle.irig_time.specs.{declared.chosen.Chosen.Chosen, declared.ending.Ending.Ending}
 
 module _ (chosen : Chosen) (micros : ℕ) (edges : List ℕ) (lines left from to : Option (List ℕ)) (outcome : Outcome)
     (aligned : Aligns chosen.format micros edges chosen.settings lines left from to (Ok outcome)) where
@@ -17,3 +19,7 @@ module _ (chosen : Chosen) (micros : ℕ) (edges : List ℕ) (lines left from to
   ends-aligned (Unread path fault) e = absurd e
   ends-aligned Listed e = absurd e
   ends-aligned (Broken fault) e = absurd e
+  ends-aligned OverTrack e = absurd e
+  ends-aligned OverLines e = absurd e
+  ends-aligned Unknown e = absurd e
+  ends-aligned (Unwritten path) e = absurd e

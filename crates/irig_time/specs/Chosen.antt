@@ -72,6 +72,7 @@ pub record IsChosen (a : RawValues) (c : Chosen) : Type 0 where
   pub wire : c.wire ≡ a.wire
   pub window : IsWindow (given a.from) (given a.to) c.window
   pub format : IsFormat (given a.format) (given a.expression) c.format
+  pub out : c.out ≡ a.out
   pub settings : HasSettings a c.settings
   pub year : lacks_year c.format c.settings ≡ false
   pub table : c.table ≡ wants_table a

@@ -7,6 +7,9 @@ pub mod Chosen
 pub mod Faults
 pub mod Settings
 pub mod Done
+pub mod Given
+pub mod Runs
+pub mod ToFile
 pub mod Ending
 pub mod Help
 pub mod Statuses

@@ -33,9 +33,10 @@ flags_command =
     with_rule (with_rule (with_rule output_command (flag (codes "alone"))) (flag (codes "why")))
     (flag (codes "table"))
 
--- and whether what was done is said at the end
+-- and where all goes, and whether what was done is said at the end
 abbrev pub quiet_command : App
-quiet_command = with_rule flags_command (flag (codes "quiet"))
+quiet_command =
+    with_rule (with_rule flags_command (option (codes "out") None)) (flag (codes "quiet"))
 
 -- the command
 abbrev pub the_command : App

@@ -24,6 +24,7 @@ pub record AreValues (f : Found) (a : RawValues) : Type 0 where
   pub name : first_value f (codes "name") ≡ option_map (λ w. w.now) a.name
   pub year : first_value f (codes "year") ≡ option_map (λ w. w.now) a.year
   pub form : first_value f (codes "form") ≡ option_map (λ w. w.now) a.form
+  pub out : first_value f (codes "out") ≡ option_map (λ w. w.now) a.out
   pub alone : first_value f (codes "alone") ≡ option_map (λ w. w.now) a.alone
   pub why : first_value f (codes "why") ≡ option_map (λ w. w.now) a.why
   pub table : first_value f (codes "table") ≡ option_map (λ w. w.now) a.table

@@ -1,14 +1,15 @@
 -- The statuses of the program as a process. This project's own.
-use Rattle.std.specs.Prelude.{◌≡◌, ℕ, Bool, true, false, List, Option}
+use Rattle.std.specs.Prelude.{ℕ, Bool, true, false, List, Option}
 use Rattle.clap.specs.Words.{Text}
-use Rattle.irig_files.specs.Tracks.{Unreadable}
 use Rattle.irig_words.specs.Telling.{EndsWith, Explains, Helps}
 use Rattle.irig_time.specs.declared.ending.Ending.TheVariants.{Usage, Unread, Aligned}
 use Rattle.irig_time.specs.declared.ending.Ending.TheVariants.{Listed, Timeless, Doubted, Broken}
+use Rattle.irig_time.specs.declared.ending.Ending.TheVariants.{OverLines, OverTrack, Unknown}
+use Rattle.irig_time.specs.declared.ending.Ending.TheVariants.{Unwritten}
 use Rattle.irig_stamps.specs.declared.fault.RunFault.{RunFault}
 use Rattle.irig_stamps.specs.declared.fault.RunFault.TheVariants.{PrintFailed}
 use Rattle.irig_stamps.specs.declared.fault.PrintFault.TheVariants.{Closed}
-use Rattle.irig_time.specs.{Done.lines_status, Ending.EndsBy, Ending.Held}
+use Rattle.irig_time.specs.{Done.lines_status, Ending.EndsBy, Given.Files, Given.IsUntouched}
 use Rattle.irig_time.specs.Help.{asks_version, help_text, version_text}
 use Rattle.irig_time.specs.{declared.ending.Ending.Ending}
 
@@ -30,23 +31,27 @@ Reports (Doubted path count it) old new status = EndsWith 1 old new status
 Reports (Usage fault) old new status = Explains help_text 4 fault old new status
 Reports (Unread path fault) old new status = EndsWith 3 old new status
 Reports (Broken fault) old new status = EndsWith (broken_status fault) old new status
+Reports OverTrack old new status = EndsWith 2 old new status
+Reports OverLines old new status = EndsWith 2 old new status
+Reports Unknown old new status = EndsWith 4 old new status
+Reports (Unwritten path) old new status = EndsWith 4 old new status
 
 -- what the words ask for was done; of how that ended is the status of the process, and what came to
 -- the output of help
-pub record Runs (words : List Text) (held : Held) (unread : Unreadable)
+pub record Runs (words : List Text) (given : Files)
     (lines left from to help helped : Option (List ℕ)) (status : ℕ) : Type 0 where
   pub ending : Ending
-  pub obeyed : EndsBy words held unread lines left from to ending
+  pub obeyed : EndsBy words given lines left from to ending
   pub told : Reports ending help helped status
 
 -- the version was printed, and nothing was read; or what else the words ask for was done
-abbrev pub ServesBy : Bool → List Text → Held → Unreadable → Option (List ℕ) → Option (List ℕ)
+abbrev pub ServesBy : Bool → List Text → Files → Option (List ℕ) → Option (List ℕ)
     → Option (List ℕ) → Option (List ℕ) → Option (List ℕ) → Option (List ℕ) → ℕ → Type 0
-ServesBy true words held unread lines left from to help helped status =
-    (left ≡ lines) × ((to ≡ from) × Helps version_text 4 help helped status)
-ServesBy false words held unread lines left from to help helped status =
-    Runs words held unread lines left from to help helped status
+ServesBy true words given lines left from to help helped status =
+    IsUntouched given lines left from to × Helps version_text 4 help helped status
+ServesBy false words given lines left from to help helped status =
+    Runs words given lines left from to help helped status
 
-abbrev pub Serves : List Text → Held → Unreadable → Option (List ℕ) → Option (List ℕ)
+abbrev pub Serves : List Text → Files → Option (List ℕ) → Option (List ℕ)
     → Option (List ℕ) → Option (List ℕ) → Option (List ℕ) → Option (List ℕ) → ℕ → Type 0
 Serves words = ServesBy (asks_version words) words

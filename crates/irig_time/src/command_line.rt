@@ -1,15 +1,4 @@
-//! The command line, read by `clap`. A `Command` is what `clap` knows of a command line, an `Arg`
-//! is an option or a word of it, and matches are what `clap` found in the words. Only memory can
-//! run out for a `Command` or an `Arg`. `option_arg` makes an option with a value, `flag_arg` one
-//! without, and `needed_arg` a word that has to be there, each by its name and its text in the
-//! help. What is after the last colon of that text is the value without the option. The options are
-//! added in this order: `part_command`, `format_command`, `column_command`, `output_command`,
-//! `flags_command`, `quiet_command`, `command`.
-//!
-//! In a contract, `IsPartCommand` and the like say that a command has just the arguments that the
-//! function of that name gives it; `MayRefuse` says that `clap` may give this error for the words,
-//! `WantsMemory` that memory ran out, `AreValues` that these are the values of the matches,
-//! `IsSound` that the values are within their limits.
+//! The command line, read by `clap`.
 
 ghost use Rattle.std.specs.Prelude.{◌≡◌, IfErr, IfOk, map, string_bytes};
 ghost use Rattle.clap.specs.Words.{HasMatchesOf, app_of, found_of};
@@ -28,9 +17,7 @@ use clap::{ArgMatches, Command, Error};
 use irig_words::{UsageFault, flag_arg, matches_of, needed_arg, option_arg, windowed};
 use std::alloc::{AllocError, Global};
 
-/// What the words of a command line ask for, the program's name being the first. The error is
-/// `Words` if `clap` does not accept the words, they ask for help, or memory runs out, and `Value`
-/// if an option has a value that it cannot have.
+/// What the words of a command line ask for, the program's name being the first.
 pub fn chosen<'a>(alloc: Global, words: &'a [String]) -> Result<Chosen<'a>, UsageFault<OptionFault>>
     ensures reads { Reads (map string_bytes words.entry.now) result }
     ensures sound { IfOk result (λ c. IsSound c.settings) }
@@ -45,8 +32,6 @@ pub fn chosen<'a>(alloc: Global, words: &'a [String]) -> Result<Chosen<'a>, Usag
     }
 }
 
-/// The values of a command line as text: the words, as `clap` takes them apart. `Err` if `clap`
-/// does not accept them, they ask for help, or memory ran out.
 fn raw_values<'a>(alloc: Global, words: &'a [String]) -> Result<RawValues<'a>, Error>
     ensures values { IfOk result (Values the_command AreValues
         (map string_bytes words.entry.now)) }
@@ -58,9 +43,7 @@ fn raw_values<'a>(alloc: Global, words: &'a [String]) -> Result<RawValues<'a>, E
     }
 }
 
-/// The values of the matches, each as it was written; `None` for an option that is not given. An
-/// option without a value, as `--why`, has `true` if it is given, and else `false`. `Err` means
-/// that memory ran out.
+/// The values of the matches, each as it was written; `None` for an option that is not given.
 fn values_of<'a>(matches: &ArgMatches<'a>) -> Result<RawValues<'a>, Error>
     ensures values { IfOk result (AreValues (found_of matches.now)) }
     ensures memory { IfErr result WantsMemory }
@@ -84,6 +67,7 @@ fn values_of<'a>(matches: &ArgMatches<'a>) -> Result<RawValues<'a>, Error>
         name: matches.get_str("name"),
         year: matches.get_str("year"),
         form: matches.get_str("form"),
+        out: matches.get_str("out"),
         alone: matches.get_str("alone"),
         why: matches.get_str("why"),
         table: matches.get_str("table"),
@@ -91,8 +75,6 @@ fn values_of<'a>(matches: &ArgMatches<'a>) -> Result<RawValues<'a>, Error>
     })
 }
 
-/// The matches of a command line that `clap` accepts. `Err` if it does not accept the words, they
-/// ask for help, or memory ran out.
 fn parse_words<'a>(alloc: Global, words: &'a [String]) -> Result<ArgMatches<'a>, Error>
     ensures parsed { IfOk result (HasMatchesOf the_command (map string_bytes words.entry.now)) }
     ensures refused { IfErr result (MayRefuse the_command (map string_bytes words.entry.now)) }
@@ -110,19 +92,19 @@ pub fn command<'a>(alloc: Global) -> Result<Command<'a>, AllocError>
     command.arg(needed_arg(alloc, "TRACK", "the dump; lines come on standard input"))
 }
 
-/// The command with the options of `flags_command`, and that which leaves the closing line out
-/// (`--quiet`).
 fn quiet_command<'a>(alloc: Global) -> Result<Command<'a>, AllocError>
     ensures { IfOk result (λ c. IsQuietCommand (app_of c)) }
 {
-    let Ok(command) = flags_command(alloc) else {
-        return Err(AllocError);
-    };
-    command.arg(flag_arg(alloc, "quiet", "no line at the end says what was done"))
+    flags_command(alloc)?
+        .arg(option_arg(
+            alloc,
+            "out",
+            "FILE",
+            "takes all at the end, from memory: standard output",
+        ))?
+        .arg(flag_arg(alloc, "quiet", "no line at the end says what was done"))
 }
 
-/// The command with the options of `output_command`, and those without a value: which frames are
-/// taken (`--alone`), and what is printed (`--why` and `--table`).
 fn flags_command<'a>(alloc: Global) -> Result<Command<'a>, AllocError>
     ensures { IfOk result (λ c. IsFlagsCommand (app_of c)) }
 {
@@ -130,7 +112,7 @@ fn flags_command<'a>(alloc: Global) -> Result<Command<'a>, AllocError>
         .arg(flag_arg(
             alloc,
             "alone",
-            "take each frame that reads well, supported by another or not",
+            "take each frame that reads well, supported or not",
         ))?
         .arg(flag_arg(
             alloc,
@@ -144,8 +126,6 @@ fn flags_command<'a>(alloc: Global) -> Result<Command<'a>, AllocError>
         ))
 }
 
-/// The command with the options of `column_command`, and those of the header and of the new column
-/// of times: `--header`, `--name`, `--year` and `--form`.
 fn output_command<'a>(alloc: Global) -> Result<Command<'a>, AllocError>
     ensures { IfOk result (λ c. IsOutputCommand (app_of c)) }
 {
@@ -156,9 +136,6 @@ fn output_command<'a>(alloc: Global) -> Result<Command<'a>, AllocError>
         .arg(option_arg(alloc, "form", "FORM", "ordinal, calendar or seconds"))
 }
 
-/// The command with the options of `format_command`, and those of the recorder's time, which each
-/// line has in a column: its unit (`--unit`), what it was when the track began (`--offset`), which
-/// column it is (`--column`), and what parts columns (`--comma`).
 fn column_command<'a>(alloc: Global) -> Result<Command<'a>, AllocError>
     ensures { IfOk result (λ c. IsColumnCommand (app_of c)) }
 {
@@ -184,8 +161,6 @@ fn column_command<'a>(alloc: Global) -> Result<Command<'a>, AllocError>
         ))
 }
 
-/// The command with the options of `part_command`, and those of the format of frames: `--format`
-/// and `--expression`.
 fn format_command<'a>(alloc: Global) -> Result<Command<'a>, AllocError>
     ensures { IfOk result (λ c. IsFormatCommand (app_of c)) }
 {
@@ -194,8 +169,6 @@ fn format_command<'a>(alloc: Global) -> Result<Command<'a>, AllocError>
         .arg(option_arg(alloc, "expression", "NUMBER", "of the format: 2"))
 }
 
-/// The command with the options that say which part of the dump is read: its wire (`--wire`), and
-/// the window (`--from` and `--to`), which `windowed` adds.
 fn part_command<'a>(alloc: Global) -> Result<Command<'a>, AllocError>
     ensures { IfOk result (λ c. IsPartCommand (app_of c)) }
 {

@@ -4,10 +4,8 @@ use irig_stamps::{Span, Tally};
 use std::fmt;
 use std::fmt::{Display, Formatter, Write};
 
-/// Picoseconds in a microsecond.
 const PICOS: u128 = 1_000_000;
 
-/// Microseconds in a second.
 const MICROS: u128 = 1_000_000;
 
 /// What was done with the lines of a run.
@@ -23,7 +21,7 @@ pub struct Done {
 
 impl Done {
     /// Writes which part of the track the lines cover: how long it is from the first one to the
-    /// last one of those that are in the track. It fails only if `f` does.
+    /// last one of those that are in the track.
     fn write_part<W: Write>(&self, f: &mut Formatter<W>) -> fmt::Result {
         let all = Seconds(self.micros as u128);
         match self.tally.span {
@@ -69,7 +67,6 @@ fn length(span: Span) -> u128 {
 struct Seconds(u128);
 
 impl Display for Seconds {
-    // It fails only if `f` does.
     fn fmt<W: Write>(&self, f: &mut Formatter<W>) -> fmt::Result {
         let whole = self.0 / MICROS;
         let part = self.0 % MICROS;

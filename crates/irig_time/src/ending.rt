@@ -9,7 +9,7 @@ use irig_words::UsageFault;
 /// How the program ends, before it is reported.
 #[derive(Drop)]
 pub enum Ending<'a> {
-    /// The words of the command line ask for help, or are not valid, or memory ran out for them.
+    /// The words ask for help, or are not valid, or memory ran out for them.
     Usage(UsageFault<OptionFault>),
     /// The track at this path was not read.
     Unread(&'a str, TrackFault),
@@ -25,4 +25,12 @@ pub enum Ending<'a> {
     Doubted(&'a str, usize, Option<Done>),
     /// The run was broken off.
     Broken(RunFault),
+    /// The path to write leads to the track.
+    OverTrack,
+    /// It leads to the file from which the lines come.
+    OverLines,
+    /// It cannot be found out whether it leads to one of them.
+    Unknown,
+    /// What came out could not be written to this path.
+    Unwritten(&'a str),
 }

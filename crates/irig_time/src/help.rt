@@ -20,7 +20,6 @@ pub fn program<'a>() -> Program<'a>
     }
 }
 
-/// What is printed if the words ask for help.
 fn help_text<'a>() -> &'a str
     ensures { result.now ≡ help_text }
 {
@@ -35,23 +34,21 @@ fn help_text<'a>() -> &'a str
      --expression <NUMBER>  of the format: 2\n      \
      --unit <UNIT>          s, ms, us, ns, ps; 10ns, 100ns: us\n      \
      --offset <NUMBER>      its time at the start of TRACK: 0\n      \
-     --column <COLUMN>      of its time: a number from 1, or its name in the \
-     header: 1\n      \
+     --column <COLUMN>      of its time: a number from 1, or its name in the header: 1\n      \
      --comma <CHARACTER>    parts columns, if not white space\n      \
      --header <NUMBER>      lines of the header: 0\n      \
      --name <NAME>          of the new column: time\n      \
      --year <YEAR>          the year of the first fine frame\n      \
      --form <FORM>          ordinal, calendar or seconds\n      \
-     --alone                take each frame that reads well, supported by \
-     another or not\n      \
+     --alone                take each frame that reads well, supported or not\n      \
      --why                  a word in place of - says why a line has no time\n      \
      --table                print a table of the frames; no lines are read\n      \
+     --out <FILE>           takes all at the end, from memory: standard output\n      \
      --quiet                no line at the end says what was done\n      \
      --version              says which tool prints the version\n  \
      -h, --help                 Print help\n"
 }
 
-/// What is printed if the words ask for the version.
 pub fn version_text<'a>() -> &'a str
     ensures { result.now ≡ version_text }
 {

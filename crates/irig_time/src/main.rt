@@ -1,13 +1,4 @@
-//! The time of day of each line that a recorder wrote next to a time track. The status is the
-//! number with which the program ends: 0 if each line had a number or the table was printed, 1 if a
-//! line had none, if frames are not believed or if none has a time, 2 for a mistake in the command
-//! line, 3 for a track that was not read, 4 if the run was broken off, and 141 if it was because
-//! nobody reads its output any more. Help that was asked for ends with 0, or with 4 if it cannot be
-//! printed. A frame is believed if another one near it supports its time.
-//!
-//! In a contract, `held` is what each file holds, if that is known, `unread` for which faults a
-//! file is not read, `remaining` what is left of an input, and `contents` what came to an output;
-//! `Serves` says that the words were obeyed, and what the output of help and the status are then.
+//! The time of day of each line that a recorder wrote next to a time track.
 #![tactic(auto)]
 
 mod chosen;
@@ -21,15 +12,17 @@ mod options;
 mod raw_values;
 mod samples;
 mod statuses;
+mod to_file;
 mod units;
 mod values;
+mod words_run;
 
 ghost use Rattle.std.specs.Prelude.{◌≡◌, map, string_bytes};
 ghost use Rattle.std.specs.Process.{exit_status};
-ghost use Rattle.irig_time.specs.{Help.asks_version, Statuses.Serves};
+ghost use Rattle.irig_files.specs.Taken.{IsLocked};
+ghost use Rattle.irig_time.specs.{Given.files, Help.asks_version, Statuses.Serves};
 
 use command_line::command;
-use file_run::align_words;
 use help::program;
 use irig_files::{FileSystem, Files, system_files};
 use statuses::{print_version, report};
@@ -38,13 +31,14 @@ use std::process::ExitCode;
 use std::rt::Runtime;
 use std::{env, io};
 use values::is_same;
+use words_run::align_words;
 
 // Gets the files of the system and the words of the command line, and aligns the lines on the input
 // with the track as `start` does, which gives the status. `system_files` of irig_files takes the
 // memory for the paths of files, and fails only if there is none: that is printed on the standard
 // error, with status 2. If the words cannot be had, `tell_no_words` prints why, with status 2, too.
 fn main(rt: HostRuntime) -> ExitCode {
-    let Ok(files) = system_files(&rt) else {
+    let Ok(mut files) = system_files(&rt) else {
         return program().tell(&rt, 2, &io::Error::from(io::ErrorKind::OutOfMemory));
     };
     match arguments(&rt) {
@@ -52,7 +46,7 @@ fn main(rt: HostRuntime) -> ExitCode {
         Ok(words) => start(
             &rt,
             words.as_slice(),
-            &files,
+            &mut files,
             &mut rt.reader(),
             &mut io::writer(&rt),
             &mut io::writer(&rt),
@@ -62,30 +56,30 @@ fn main(rt: HostRuntime) -> ExitCode {
     }
 }
 
-/// The words of the command line, the program's name being the first. `Err` if one of them is not
-/// UTF-8, the system gives none, or memory runs out.
+/// The words of the command line, the program's name being the first.
 fn arguments<R: Runtime + AllocGlobal>(rt: &R) -> io::Result<Vec<String>> {
     let words = env::args(rt)?.collect(rt.alloc())?;
     Ok(words)
 }
 
-/// Aligns the lines of an input, `lines`, with the track that the words name, by the files of this
-/// system (`disk`), and reports how that ended: the answer is the exit status, 0 to 4 as the head
-/// of this file says. `out` is the output for the lines or the table, and `help` that for the help.
+/// Aligns the lines of an input with the track that the words name, by the files of this system
+/// (`disk`), and reports how that ended.
 fn start<P: Eprint + AllocGlobal, C: FileSystem, R: Read, W: Write, H: Write>(
     rt: &P,
     words: &[String],
-    disk: &Files<C>,
+    disk: &mut Files<C>,
     lines: &mut R,
     out: &mut W,
     help: &mut H,
 ) -> ExitCode
     // The words were obeyed. The output of help has the help or the version, if that was asked for,
     // and else nothing: `rt` prints on the standard error alone, and lines go to `out`.
-    ensures { Serves (map string_bytes words.now) (C.held disk.now.system)
-        (C.unread disk.now.system) (R.remaining lines.old) (R.remaining lines.new)
-        (W.contents out.old) (W.contents out.new) (H.contents help.old) (H.contents help.new)
-        (exit_status result) }
+    ensures { Serves (map string_bytes words.now)
+        (files (C.held disk.old.system) (C.unread disk.old.system) C.is_told C.usual_mode
+        (IsLocked (C.may_write disk.old.system)) (C.disk disk.old.system) (C.disk disk.new.system)
+        (disk.new ≡ disk.old))
+        (R.remaining lines.old) (R.remaining lines.new) (W.contents out.old) (W.contents out.new)
+        (H.contents help.old) (H.contents help.new) (exit_status result) }
 {
     if asks_version(words) {
         return print_version(rt, help);
@@ -94,7 +88,6 @@ fn start<P: Eprint + AllocGlobal, C: FileSystem, R: Read, W: Write, H: Write>(
     report(rt, &ending, help)
 }
 
-/// Whether the words ask for the version: after the program's name there is just that word.
 fn asks_version(words: &[String]) -> bool
     ensures { result ≡ asks_version (map string_bytes words.now) }
 {

@@ -1,7 +1,4 @@
-//! The name of the column of times, which the program adds before each line. It is printed in the
-//! last line of the header. `raw` has the values of the command line as text, as they are written,
-//! and an `OptionFault` names the option whose value is wrong. In a contract, `HasName` says that
-//! the name is what the options mean, `HasFault` that this option has a value that it cannot have.
+//! The name of the column of times, which the program adds before each line.
 
 ghost use Rattle.std.specs.Prelude.{◌≡◌, IfErr, IfOk, Some, codes};
 ghost use Rattle.irig_time.specs.Faults.{HasFault};
@@ -14,10 +11,7 @@ use crate::chosen::OptionFault;
 use crate::raw_values::RawValues;
 use irig_words::text_or;
 
-/// The name of the column of times (`--name`), `time` if none is given. `comma` is the byte that
-/// parts columns, `None` if white space does; `header` is how many lines the header has. The error
-/// is `Name` if a column cannot have the name, and `Unnamed` if it is given and there is no header
-/// (`header` is 0) to write it in.
+/// The name of the column of times (`--name`), `time` if none is given.
 pub fn name_of<'a>(
     raw: &RawValues<'a>,
     comma: Option<u8>,
@@ -39,9 +33,6 @@ pub fn name_of<'a>(
     Ok(name)
 }
 
-/// Whether a column can have this name: it has at least a byte, and no quote, no end of a line and
-/// nothing that parts columns (`has_comma`). With one of these it could not be read as one name of
-/// one column.
 fn is_name(comma: Option<u8>, name: &[u8]) -> bool
     ensures { result ≡ is_name comma name.now }
 {
@@ -62,7 +53,6 @@ fn has_comma(comma: Option<u8>, text: &[u8]) -> bool
     }
 }
 
-/// Whether this byte is in a text.
 fn has(byte: u8, text: &[u8]) -> bool
     ensures { result ≡ has byte text.now }
 {

@@ -1,9 +1,5 @@
 //! How the lines that a recorder wrote, its samples, are read, and how a time is written: by the
-//! values of the options. `raw` has the values as text, as they are written. `text_or` gives the
-//! value of an option, or its second argument if the option is not given. An error, an
-//! `OptionFault`, has the name of the option that is wrong. In a contract, `HasFault` says that
-//! this option has a value that it cannot have, `names_column` that `--column` is a name, and
-//! `HasColumns`, `HasDates`, `IsColumn` and `IsComma` that the result is what the options mean.
+//! values of the options.
 
 ghost use Rattle.std.specs.Prelude.{◌≡◌, ◌≤◌, ◌<◌, ◌^◌, IfErr, IfOk, IfSome, Some, codes, true};
 ghost use Rattle.irig_time.specs.Faults.{HasFault};
@@ -23,14 +19,11 @@ use irig_words::text_or;
 /// The last column that a number can name, from 1: this project's own limit.
 const COLUMN_LIMIT: u128 = 65_536;
 
-/// The most lines that a header can have: 2^32. This project's own limit.
 const HEADER_LIMIT: u128 = 4_294_967_296;
 
 /// The century of years of two digits, if no year is given: 2000 to 2099.
 const CENTURY: u32 = 20;
 
-/// The first year. One with fewer digits, as 26, is a year that was written short: time code is not
-/// that old.
 const YEAR_FIRST: u128 = 1_000;
 
 /// The last year: a track can reach into the next one, which has four digits, too.
@@ -52,7 +45,7 @@ pub struct Columns<'a> {
 /// A column of a line: by its number, or by its name, if it has to be looked up in the header.
 #[derive(Clone, Copy)]
 pub struct Column<'a> {
-    /// Its number, from 0. It is 0, without a meaning, if there is a name.
+    /// Its number, from 0.
     pub number: usize,
     /// Its name, if it is given by that.
     pub named: Option<&'a [u8]>,
@@ -60,7 +53,7 @@ pub struct Column<'a> {
 
 /// Where the recorder's time is in a line, and what it means, by four options: `--unit`,
 /// microseconds if it is not given; `--offset`, 0; `--column`, the first; and `--comma`, white
-/// space. The error names the first of them, in this order, with a value that it cannot have.
+/// space.
 pub fn columns_of<'a>(raw: &RawValues<'a>) -> Result<Columns<'a>, OptionFault>
     ensures columns { IfOk result (λ c. HasColumns raw.now c.places c.offset c.column c.comma) }
     ensures sound { IfOk result (λ c. c.offset.size ≤ 2 ^ 119) }
@@ -86,9 +79,6 @@ pub fn columns_of<'a>(raw: &RawValues<'a>) -> Result<Columns<'a>, OptionFault>
     })
 }
 
-/// The column that is asked for, the first if none is: a number from 1, which becomes one from 0,
-/// or a name if the text is no number. `Column` if it is a number that is not from 1 to 65,536, or
-/// the text is empty.
 fn column_of<'a>(raw: &RawValues<'a>) -> Result<Column<'a>, OptionFault>
     ensures column { IfOk result (IsColumn raw.now) }
     ensures named { IfOk result (λ c. IfSome c.named (λ n. names_column raw.now ≡ true)) }
@@ -110,8 +100,6 @@ fn column_of<'a>(raw: &RawValues<'a>) -> Result<Column<'a>, OptionFault>
     })
 }
 
-/// Whether a text is the name of a column: it has a byte, and is no whole number, which has digits
-/// alone. So `-1` is a name. The attribute names what the proof uses.
 #[tactic(auto, using(crate::proofs::Headed::some_capped))]
 fn is_column_name(text: &[u8]) -> bool
     ensures { result ≡ is_column_name text.now }
@@ -119,9 +107,6 @@ fn is_column_name(text: &[u8]) -> bool
     !text.is_empty() && whole(text).is_none()
 }
 
-/// How many lines are the header (`--header`): 0 if that is not given. The error is `Header` if it
-/// is no whole number up to 2^32, and `Headless` if it is 0 and the column of the recorder's time
-/// is given by its name (`named`), which has to be looked up in the header.
 pub fn header_of(raw: &RawValues<'_>, named: Option<&[u8]>) -> Result<u64, OptionFault>
     requires { IfSome named (λ n. names_column raw.now ≡ true) }
     ensures header { IfOk result (λ header.
@@ -143,7 +128,6 @@ pub fn header_of(raw: &RawValues<'_>, named: Option<&[u8]>) -> Result<u64, Optio
 }
 
 /// The byte that parts columns (`--comma`); `Ok(None)` if it is not given: then white space does.
-/// The error is `Comma`, if the text is not one byte that can part them.
 fn comma_of(raw: &RawValues<'_>) -> Result<Option<u8>, OptionFault>
     ensures comma { IfOk result (IsComma raw.now) }
     ensures fault { IfErr result (λ fault. HasFault raw.now Comma) }
@@ -168,9 +152,7 @@ pub struct Dates {
     pub form: Form,
 }
 
-/// How a time is written (`--form`, `ordinal` if it is not given), and its year (`--year`). The
-/// century is that of the year, if one is given, else 20, for 2000 to 2099. The error is `Form` if
-/// there is no such form, tested first, and `Year` if it is no year from 1000 to 9998.
+/// How a time is written (`--form`, `ordinal` if it is not given), and its year (`--year`).
 pub fn dates_of(raw: &RawValues<'_>) -> Result<Dates, OptionFault>
     ensures dates { IfOk result (λ d. HasDates raw.now d.century d.year d.form) }
     ensures sound { IfOk result (λ d. (d.century ≤ 99) × IfSome d.year (λ y. y ≤ 9998)) }

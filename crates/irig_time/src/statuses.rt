@@ -1,13 +1,4 @@
-//! The statuses of the program as a process, and what it says of faults. 0 is that each line had a
-//! number and fits the header, or the table was printed, 1 that a line or the header did not, that
-//! frames are not believed or that none has a time, 2 a mistake in the command line, 3 a track that
-//! was not read, 4 that the run was broken off, and 141 that nobody reads its output any more. A
-//! frame is believed if another one near it supports its time. A line fits the header if it has as
-//! many columns, and the header fits if it names no other unit than that of the command line.
-//! `tell` and `tell_of` print a fault on the standard error, the latter with a path, and return the
-//! status that they get. `explain` prints the help with status 0, or with 2 what is wrong with the
-//! words; the status is 4 if the help cannot be printed. In a contract, `contents` is what came to
-//! an output, and `Reports` says what the output of help and the status are for an ending.
+//! The statuses of the program as a process, and what it says of faults.
 
 ghost use Rattle.std.specs.Prelude.{◌≡◌};
 ghost use Rattle.std.specs.Process.{exit_status};
@@ -30,8 +21,6 @@ use std::process::ExitCode;
 /// shell shows it of `cat` and `sort`.
 const CLOSED: u8 = 141;
 
-/// The status of the process for how the program ended. What is wrong is printed on the standard
-/// error, and help that was asked for on its output, `help`.
 pub fn report<R: Eprint, H: Write>(rt: &R, ending: &Ending<'_>, help: &mut H) -> ExitCode
     ensures { Reports ending.now (H.contents help.old) (H.contents help.new) (exit_status result) }
 {
@@ -44,11 +33,14 @@ pub fn report<R: Eprint, H: Write>(rt: &R, ending: &Ending<'_>, help: &mut H) ->
         Ending::Timeless(path, done) => tell_timeless(rt, path, done),
         Ending::Doubted(path, count, done) => tell_doubted(rt, path, *count, done),
         Ending::Broken(fault) => tell_broken(rt, fault),
+        Ending::OverTrack => program.tell(rt, 2, &"--out: is TRACK, which is not written over"),
+        Ending::OverLines => program.tell(rt, 2, &"--out: has the lines, and is not written over"),
+        Ending::Unknown => program.tell(rt, 4, &"--out: cannot find out whether it is TRACK"),
+        Ending::Unwritten(path) => program.tell_of(rt, 4, path, &"cannot be written"),
     }
 }
 
-/// Prints the version on `help`, the program's output. The exit status is 0 if all of it was
-/// printed, and else that of a failed output, 4.
+/// Prints the version on `help`, the program's output.
 pub fn print_version<R: Eprint, H: Write>(rt: &R, help: &mut H) -> ExitCode
     ensures { Helps version_text 4 (H.contents help.old) (H.contents help.new)
         (exit_status result) }
@@ -59,7 +51,6 @@ pub fn print_version<R: Eprint, H: Write>(rt: &R, help: &mut H) -> ExitCode
     }
 }
 
-/// Says why the track at this path was not read, and returns the status, 3.
 fn tell_unread<R: Eprint>(rt: &R, path: &str, fault: &TrackFault) -> ExitCode
     ensures { exit_status result ≡ 3 }
 {
@@ -81,9 +72,6 @@ fn what_next<'a>(fault: &TrackFault) -> &'a str {
     }
 }
 
-/// Says why the run was broken off, and returns the status, 4. If nobody reads the output any more,
-/// as after `head`, nothing is said, and the status is that which a shell has for a program that is
-/// ended by the signal of a closed pipe.
 fn tell_broken<R: Eprint>(rt: &R, fault: &RunFault) -> ExitCode
     ensures { exit_status result ≡ broken_status fault.now }
 {
@@ -105,15 +93,12 @@ fn tell_aligned<R: Eprint>(rt: &R, done: &Done) -> ExitCode
     ExitCode::from(1)
 }
 
-/// Whether each line has a number, and as many columns as the header, which names no other unit.
 fn is_whole(tally: &Tally) -> bool
     ensures { result ≡ is_whole tally.now }
 {
     tally.unnumbered == 0 && tally.uneven.is_none() && !tally.other_unit
 }
 
-/// Says that no frame of the track at this path has a time, and what was done with the lines, if
-/// they were read. The status is 1, also if that cannot be printed.
 fn tell_timeless<R: Eprint>(rt: &R, path: &str, done: &Option<Done>) -> ExitCode
     ensures { exit_status result ≡ 1 }
 {
@@ -125,8 +110,6 @@ fn tell_timeless<R: Eprint>(rt: &R, path: &str, done: &Option<Done>) -> ExitCode
     ExitCode::from(1)
 }
 
-/// Says how many frames of the track at this path have a time and are not believed, and what was
-/// done with the lines, if they were read. The status is 1, also if that cannot be printed.
 fn tell_doubted<R: Eprint>(rt: &R, path: &str, count: usize, done: &Option<Done>) -> ExitCode
     ensures { exit_status result ≡ 1 }
 {
@@ -138,9 +121,6 @@ fn tell_doubted<R: Eprint>(rt: &R, path: &str, count: usize, done: &Option<Done>
     ExitCode::from(1)
 }
 
-/// Says whether the header names another unit; which line is the first that has another number of
-/// columns than the header, if one has; and what was done with the lines, unless that is not asked
-/// for.
 fn tell_done<R: Eprint>(rt: &R, done: &Done) {
     if done.tally.other_unit {
         let what = "the header names another unit of the recorder's time than --unit";

@@ -1,7 +1,4 @@
-//! The units of the recorder's time, by their names: s, ms, us, ns and ps. A unit is 10^n
-//! picoseconds: n, its `places`, is 12, 9, 6, 3 and 0. Each function returns such an n, and `None`
-//! if the text is no unit. A name may have 1, 10 or 100 before it, as `100ns`, which adds 0, 1 or 2
-//! to n.
+//! The units of the recorder's time, by their names: s, ms, us, ns and ps.
 
 ghost use Rattle.std.specs.Prelude.{◌≡◌, ◌≤◌, IfSome};
 ghost use Rattle.irig_time.specs.Units.{places_after_one, places_after_ten, places_named};
@@ -17,8 +14,6 @@ pub fn places_named(name: &[u8]) -> Option<usize>
     }
 }
 
-/// The n of a name that begins with 1. `rest` is what comes after the 1: no, one or two zeros, and
-/// the unit.
 fn places_after_one(rest: &[u8]) -> Option<usize>
     ensures { result ≡ places_after_one rest.now }
 {
@@ -28,8 +23,6 @@ fn places_after_one(rest: &[u8]) -> Option<usize>
     }
 }
 
-/// The n of a name that begins with 10. `rest` is what comes after the 10: a zero or none, and the
-/// unit.
 fn places_after_ten(rest: &[u8]) -> Option<usize>
     ensures { result ≡ places_after_ten rest.now }
 {
@@ -39,8 +32,6 @@ fn places_after_ten(rest: &[u8]) -> Option<usize>
     }
 }
 
-/// `places`, the n of a unit, at most 12, and `more` added to it: the count of zeros before the
-/// unit. `None` if there is no n.
 fn with_places(more: usize, places: Option<usize>) -> Option<usize>
     requires few { more ≤ 2 }
     requires range { IfSome places (λ n. n ≤ 12) }
@@ -52,7 +43,6 @@ fn with_places(more: usize, places: Option<usize>) -> Option<usize>
     }
 }
 
-/// The n of the unit with this name, without a number before it; `None` if there is none.
 fn unit_places(name: &[u8]) -> Option<usize>
     ensures value { result ≡ unit_places name.now }
     ensures range { IfSome result (λ n. n ≤ 12) }
@@ -64,7 +54,6 @@ fn unit_places(name: &[u8]) -> Option<usize>
     }
 }
 
-/// The n of the unit with this letter before its s; `None` if there is none.
 fn prefix_places(prefix: u8) -> Option<usize>
     ensures value { result ≡ prefix_places prefix }
     ensures range { IfSome result (λ n. n ≤ 12) }
