@@ -150,7 +150,7 @@ class Heads:
             text = "%s: its heads are in its first columns; give the numbers of times and values, as --time-column %d --column %d"
             raise Problem(text % (self.path, numbered[0] + 1, numbered[1] + 1))
         own = [self._name(place) if self.names.count(self._name(place)) == 1 else "" for place in places]
-        listed = _listed([name or "number %d" % (place + 1) for place, name in zip(places, own)])
+        listed = _first_names([name or "number %d" % (place + 1) for place, name in zip(places, own)])
         raise Problem("%s: has several columns; name one or its number, as --column '%s': %s" % (
             self.path, own[0] or places[0] + 1, listed) if places else "%s: has no column of values" % self.path)
 
@@ -170,11 +170,11 @@ class Heads:
             return self.names.index(name)
         if WHOLE.fullmatch(name) and 1 <= int(name) <= self.count:
             return int(name) - 1
-        listed = _listed([each for each in self.names if each]) or "the numbers 1 to %d" % self.count
+        listed = _first_names([each for each in self.names if each]) or "the numbers 1 to %d" % self.count
         raise Problem("%s: has no column '%s'; there are: %s" % (self.path, name, listed))
 
 
-def _listed(names: Sequence[str]) -> str:
+def _first_names(names: Sequence[str]) -> str:
     """These names, or the first of them and how many more there are."""
     return ", ".join([*names[:COLUMNS_SHOWN], *["and %d more" % (len(names) - COLUMNS_SHOWN)] * (len(names) > COLUMNS_SHOWN)])
 

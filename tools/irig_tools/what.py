@@ -22,7 +22,7 @@ from .sheet import STATES
 from .search import TRIED, Found, Probe, search
 from .temporary import named_if_no_room, temporary_track
 from .wire import Extract, Wish, extract_all
-from .with_code import lines_of_all
+from .with_code import lines_with_code
 
 
 @dataclass
@@ -179,7 +179,7 @@ class What:
 
     def lines(self) -> List[str]:
         found = self.found
-        lines = lines_of_all(self.carriers)
+        lines = lines_with_code(self.carriers)
         lines += ["wire %s may carry time code, too; only %d wires are read" % (text, MOST_READ)
                   for text in wire_texts(found.header, [probe.signal for probe in found.probes[MOST_READ:]])]
         if not found.header.unit and not self.unit and found.probes:

@@ -17,7 +17,7 @@ from .search import HOPELESS, WINDOW
 from .texts import counted
 from .what import What
 from .what_samples import Lanes, lanes_at
-from .with_code import lines_of_all
+from .with_code import lines_with_code
 
 COMMAND = Command("irig_what", ("DUMP",), """\
 Says which wires of a value change dump carry IRIG 200-04 time code, upright or
@@ -60,7 +60,7 @@ def say_lanes(lanes: Lanes, name: str, as_objects: bool) -> int:
     if as_objects:
         sys.stdout.write(objects([each.as_object(command) for each, command in zip(found, commands)]))
     else:
-        lines = lines_of_all(found) + commands[:1] if found else [NO_LANE % lanes.many]
+        lines = lines_with_code(found) + commands[:1] if found else [NO_LANE % lanes.many]
         sys.stdout.write("".join(line + "\n" for line in lines))
     return ALL_RIGHT if sum(each.has_frames for each in found) == 1 and found[0].carrier.fine else FOUND
 

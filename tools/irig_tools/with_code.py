@@ -18,7 +18,7 @@ class WithCode(Protocol):
         """All that is said of it."""
 
 
-def lines_of_all(found: Sequence[WithCode]) -> List[str]:
+def lines_with_code(found: Sequence[WithCode]) -> List[str]:
     """Those with the most fine frames are first. If some have frames, one without has a line that says so."""
     is_some = any(each.has_frames for each in found)
     return [line for each in found for line in (
