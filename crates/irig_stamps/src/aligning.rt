@@ -1,12 +1,4 @@
-//! Lines are aligned with a recording of an IRIG time code. The recorder's time of a line is the
-//! number in one of its columns: when the line was recorded, by a clock of its own. Each line is
-//! printed with its stamp before it: the time of year that the recording has at the line's
-//! recorder's time, or a word if it has none. `format` is the code of the recording. A frame is
-//! believed if another one near it supports its time, or with `settings.alone` if it has a time at
-//! all; only believed frames give times. A `Lens` shows the pulses of a recording as a track, which
-//! is all its pulses in order, and a `FrameLens` its frames. The bounds of `settings` keep each
-//! year in four digits, and each sum in its type. A `RunFault` says why the run over the lines was
-//! broken off.
+//! Lines are aligned with a recording of an IRIG time code.
 
 ghost use Rattle.std.specs.Prelude.{◌≡◌, ◌≤◌, ◌<◌, ◌^◌, ℕ, List, Option, IfOk, IfSome};
 ghost use Rattle.std.specs.Io.KnownBytes.{Consumes};
@@ -29,12 +21,7 @@ use irig_track::Lens;
 use std::alloc::Global;
 use std::io::{Read, Write};
 
-/// Reads lines to their end and prints each with its stamp before it. Returns whether each line
-/// after the header has a number in its column (`numbered`), whether a frame is believed, and how
-/// many frames have a time and are not (`standing`). The column is `settings.column`, or if
-/// `settings.named` is there, the one with that name in the last line of the header; the caller has
-/// seen that there is a header then. The error is any `RunFault`; those of a header and its columns
-/// come only if a name is looked for. What was printed before an error stays printed.
+/// Reads lines to their end and prints each with its stamp before it.
 pub fn align<R: Read, W: Write>(
     alloc: Global,
     recording: LongRecording,
@@ -57,9 +44,7 @@ pub fn align<R: Read, W: Write>(
     align_by_name(alloc, &recording, lines, out, format, settings, name)
 }
 
-/// Aligns the lines if their column is given by its number (`settings.column`). Results and errors
-/// are those of `align`, but for the errors of a header and its columns. No byte of the lines was
-/// read before, so `align_track` gets none.
+/// Aligns the lines if their column is given by its number (`settings.column`).
 fn align_by_number<R: Read, W: Write>(
     alloc: Global,
     recording: &LongRecording,
@@ -80,10 +65,7 @@ fn align_by_number<R: Read, W: Write>(
     align_track(alloc, &mut pulses, b"", lines, out, format, settings)
 }
 
-/// Aligns the lines if their column is given by its name in the last line of the header. Results
-/// and errors are those of `align`. `find` reads the header and finds the column. What it read
-/// (`before`) is handed on, since it cannot be read again. If it fails, as if no column has the
-/// name or two have it, its error is returned, and nothing is printed.
+/// Aligns the lines if their column is given by its name in the last line of the header.
 fn align_by_name<R: Read, W: Write>(
     alloc: Global,
     recording: &LongRecording,
@@ -115,11 +97,7 @@ fn align_by_name<R: Read, W: Write>(
     align_track(alloc, &mut pulses, before, lines, out, format, &settings)
 }
 
-/// Aligns the lines with the track that a lens shows. The bytes `before` were read of the lines
-/// already. First the track is looked at: its frames (`records`), which of them are believed
-/// (`held`), the day of the first of these, how many have a time and are not believed, and what is
-/// known of the times of pulses. If memory runs out there, nothing is read or printed here. Then
-/// `run` reads and prints the lines. Results and errors are those of `align`.
+/// Aligns the lines with the track that a lens shows.
 fn align_track<R: Read, W: Write>(
     alloc: Global,
     pulses: &mut Lens<'_>,

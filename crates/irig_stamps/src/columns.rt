@@ -1,8 +1,4 @@
-//! The columns of a line, from 0. They are parted by a byte (`comma`), or if that is `None` by
-//! white space. `cut` gives what is before the first byte of some kind, and what is from that byte
-//! on: white space (`Blank`), any other byte (`NonBlank`), or a given one (`Byte`). If no such byte
-//! is left, all is before it and nothing from it on: so a column that a line does not have has no
-//! byte.
+//! The columns of a line, from 0.
 
 ghost use Rattle.std.specs.Prelude.{◌≡◌, ◌==◌, ◌≤◌, Some, None, count_by, length};
 ghost use Rattle.irig_stamps.specs.Columns.{column_of, passed, word_at, part_at, rest_of};
@@ -20,9 +16,7 @@ pub fn column(comma: Option<u8>, k: usize, line: &[u8]) -> &[u8]
     }
 }
 
-/// Column `k` of a line, from 0, if white space parts columns. White space at the start of the line
-/// makes no column. The loop passes the `k` columns before it, each with the white space before it.
-/// No byte if the line has no column `k`.
+/// Column `k` of a line, from 0, if white space parts columns.
 fn spaced_column(k: usize, line: &[u8]) -> &[u8]
     ensures { result.now ≡ word_at k line.now }
 {
@@ -36,9 +30,7 @@ fn spaced_column(k: usize, line: &[u8]) -> &[u8]
     word
 }
 
-/// Column `k` of a line, from 0, if the byte `comma` parts columns. The loop passes the `k` columns
-/// before it, each with the byte after it. No byte if the line has no column `k`, or if that column
-/// is empty.
+/// Column `k` of a line, from 0, if the byte `comma` parts columns.
 fn parted_column(comma: u8, k: usize, line: &[u8]) -> &[u8]
     ensures { result.now ≡ part_at comma k line.now }
 {
@@ -69,9 +61,7 @@ fn commas(comma: u8, line: &[u8]) -> usize
     line.iter().filter(|byte| **byte == comma).count()
 }
 
-/// What is left of a line after its first column; no byte if nothing comes after it. The first
-/// column of what is left is the next one. If the byte `comma` parts columns, the one after the
-/// first column is passed, too. If white space does, that after the first column is still there.
+/// What is left of a line after its first column; no byte if nothing comes after it.
 pub fn after_first(comma: Option<u8>, line: &[u8]) -> &[u8]
     ensures { result.now ≡ passed comma line.now }
 {
@@ -81,8 +71,6 @@ pub fn after_first(comma: Option<u8>, line: &[u8]) -> &[u8]
     }
 }
 
-/// What is after the first column, if white space parts columns. The white space before the column
-/// is passed, that after it is not.
 fn after_spaced(line: &[u8]) -> &[u8]
     ensures { result.now ≡ passed None line.now }
 {
@@ -91,7 +79,6 @@ fn after_spaced(line: &[u8]) -> &[u8]
     left
 }
 
-/// What is after the first column and the byte after it, if the byte `comma` parts columns.
 fn after_parted(comma: u8, line: &[u8]) -> &[u8]
     ensures { result.now ≡ passed (Some comma) line.now }
 {
@@ -99,7 +86,6 @@ fn after_parted(comma: u8, line: &[u8]) -> &[u8]
     skip_byte(text)
 }
 
-/// All but the first byte of a text; nothing, if it has none.
 fn skip_byte(text: &[u8]) -> &[u8]
     ensures { result.now ≡ rest_of text.now }
 {

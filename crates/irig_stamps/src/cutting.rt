@@ -1,6 +1,4 @@
-//! A text is cut before the first byte of some kind, or after the last one. So numbers, columns and
-//! units are read: `cut` gives what was read, and what is left; `cut_back` what is left, and what
-//! was read from the end.
+//! A text is cut before the first byte of some kind, or after the last one.
 
 ghost use Rattle.std.specs.Prelude.{◌≡◌};
 ghost use Rattle.irig_stamps.specs.Columns.{after_last, is_alphanumeric, is_at, is_digit, is_letter};
@@ -52,7 +50,7 @@ impl Until {
 }
 
 /// Cuts a text before the first byte of a kind: returns what is before that byte, and what is from
-/// it on. If there is no such byte, all is before it, and nothing from it on.
+/// it on.
 pub fn cut(text: &[u8], until: Until) -> (&[u8], &[u8])
     ensures before { result.0.now ≡ before until text.now }
     ensures onward { result.1.now ≡ onward until text.now }
@@ -65,7 +63,7 @@ pub fn cut(text: &[u8], until: Until) -> (&[u8], &[u8])
 }
 
 /// Cuts a text after the last byte of a kind: returns what is up to that byte, and what is after
-/// it. If there is no such byte, nothing is up to it, and all is after it.
+/// it.
 pub fn cut_back(text: &[u8], until: Until) -> (&[u8], &[u8])
     ensures up_to { result.0.now ≡ up_to until text.now }
     ensures after { result.1.now ≡ after_last until text.now }
@@ -77,22 +75,19 @@ pub fn cut_back(text: &[u8], until: Until) -> (&[u8], &[u8])
     (&text[..at], &text[at..])
 }
 
-/// Whether a byte is white space in a line: a space, a tab or a carriage return.
 fn is_space(byte: u8) -> bool
     ensures { result ≡ is_space byte }
 {
     matches!(byte, b' ' | b'\t' | b'\r')
 }
 
-/// Whether a byte is a decimal digit.
 pub fn is_digit(byte: u8) -> bool
     ensures { result ≡ is_digit byte }
 {
     matches!(byte, b'0'..=b'9')
 }
 
-/// Whether a byte is a letter. Each byte above 127 counts as one: it is a part of a character that
-/// ASCII does not have, as µ.
+/// Whether a byte is a letter.
 fn is_letter(byte: u8) -> bool
     ensures { result ≡ is_letter byte }
 {

@@ -1,6 +1,4 @@
 //! The years and dates of times, by the calendar of jiff (Gregorian, to the end of the year 9999).
-//! Days of the year (`days`), months and days of a month count from 1. A frame is believed if
-//! another one near it supports its time. The bounds of `settings` keep each year in four digits.
 
 ghost use Rattle.std.specs.Prelude.{◌≡◌, ◌≤◌, IfSome};
 ghost use Rattle.irig_stamps.specs.Dates.{counted_on, date_from, date_in, year_in};
@@ -9,15 +7,10 @@ use crate::settings::Settings;
 use irig_times::Time;
 use jiff_core::civil::days_in_month;
 
-/// By how many days the day of the year goes back at least, if a year has ended. A track lasts at
-/// most 12.7 days, so it has 352 or more between the days of two years, or fewer if the recorder
-/// stopped for some weeks. A clock that was set goes back by any number of days: with half of this,
-/// one that was half a year ahead would end a year, and with twice as many no year would end.
+/// By how many days the day of the year goes back at least, if a year has ended.
 const YEAR_END: u32 = 300;
 
-/// The year of a time. If its frame carries a year, of two digits, it is that year of the century
-/// of the settings. Else it is counted by the day (`year_by_day`); `None` if the settings have no
-/// year to count from.
+/// The year of a time.
 pub fn year_in(settings: &Settings<'_>, time: &Time) -> Option<u32>
     requires century { settings.now.century ≤ 99 }
     requires year { IfSome settings.now.year (λ y. y ≤ 9998) }
@@ -31,10 +24,7 @@ pub fn year_in(settings: &Settings<'_>, time: &Time) -> Option<u32>
     }
 }
 
-/// The year of a day, if frames carry no year. It is the year of the first believed frame
-/// (`settings.year`), or the next one if the day is so long before the day of that frame
-/// (`settings.first_day`) that a year has ended (`YEAR_END`). `None` if `settings.year` is not
-/// known.
+/// The year of a day, if frames carry no year.
 fn year_by_day(settings: &Settings<'_>, days: u32) -> Option<u32>
     requires year { IfSome settings.now.year (λ y. y ≤ 9998) }
     ensures value { result ≡ counted_on settings.now days }
@@ -52,8 +42,7 @@ fn year_by_day(settings: &Settings<'_>, days: u32) -> Option<u32>
     }
 }
 
-/// The month and the day in it of a day of a year (`days`). `None` if the year is not known, or has
-/// no such day.
+/// The month and the day in it of a day of a year (`days`).
 pub fn date_in(year: Option<u32>, days: u32) -> Option<(u32, u32)>
     requires { IfSome year (λ y. y ≤ 9999) }
     ensures { result ≡ date_in year days }
@@ -64,9 +53,7 @@ pub fn date_in(year: Option<u32>, days: u32) -> Option<(u32, u32)>
     }
 }
 
-/// The month and the day in it of a day of this year (`days`). `None` if the year has no such day:
-/// 0, or more than its days. The loop passes the months from the first on; `left` is the day as it
-/// counts in the month that is looked at.
+/// The month and the day in it of a day of this year (`days`).
 fn date_in_known_year(year: u32, days: u32) -> Option<(u32, u32)>
     requires { year ≤ 9999 }
     ensures { result ≡ date_from year days }

@@ -1,9 +1,4 @@
-//! The column with a name, in the header of the lines. The header is the first `settings.header`
-//! lines, and the name is looked for in its last one. Columns are parted by the byte `comma`, or if
-//! it is `None` by white space; the place of a column is its number, from 0. `bytes` is all that
-//! was read of the lines, which can be more than the header. The faults (`RunFault`): `NoHeader` if
-//! the last line of the header is not there, `NoColumn` if no column has the name, `TwoColumns` if
-//! more than one has it, and those of `read_header`.
+//! The column with a name, in the header of the lines.
 
 ghost use Rattle.std.specs.Prelude.{◌≡◌, ◌<◌, ◌+◌, ℕ, List, Option, Ok, Err, IfErr, IfOk, Bool};
 ghost use Rattle.irig_stamps.specs.HeaderSteps.{HasRead, IsNext, IsSoFar};
@@ -23,15 +18,13 @@ const COLUMN_LIMIT: usize = 65_536;
 /// The column that was looked for, and what was read of the lines to find it.
 #[derive(Drop)]
 pub struct Found {
-    /// All bytes that were read. They can reach past the header, and cannot be read again.
+    /// All bytes that were read.
     pub bytes: Vec<u8>,
     /// The column, from 0.
     pub column: usize,
 }
 
-/// Reads the header of the lines, and finds the column with a name in its last line. Returns its
-/// place and all that was read. Any of the faults of the head of this file can be the error. The
-/// caller has seen that the header has at least one line.
+/// Reads the header of the lines, and finds the column with a name in its last line.
 pub fn find<R: Read>(
     alloc: Global,
     lines: &mut R,
@@ -54,8 +47,7 @@ pub fn find<R: Read>(
     }
 }
 
-/// The place of the column that has a name, in the last line of the header. `NoHeader` if that line
-/// is not there, that is, if the lines ended before it; else the faults of `named_column`.
+/// The place of the column that has a name, in the last line of the header.
 fn find_in_bytes(settings: &Settings<'_>, name: &[u8], bytes: &[u8]) -> Result<usize, RunFault>
     requires { 0 < settings.now.header }
     ensures { (lines : Option (List ℕ)) (left : Option (List ℕ))
@@ -77,9 +69,7 @@ fn find_in_bytes(settings: &Settings<'_>, name: &[u8], bytes: &[u8]) -> Result<u
 }
 
 /// The place of the column of a line that has a name: `NoColumn` if none has it, `TwoColumns` if
-/// more than one has it. The first 65,536 columns are looked at. Those that the line does not have
-/// are empty, and have the name if it is empty, too. Each turn of the loop looks at the first
-/// column of what is left of the line, and passes it.
+/// more than one has it.
 fn named_column(comma: Option<u8>, name: &[u8], line: &[u8]) -> Result<usize, RunFault>
     ensures { IsPlace (has_name comma name.now line.now) 65536 result }
 {
@@ -100,8 +90,6 @@ fn named_column(comma: Option<u8>, name: &[u8], line: &[u8]) -> Result<usize, Ru
 }
 
 /// The place of the column that has the name, of the columns up to `place`; `None` if none has it.
-/// `found` is that of the columns before `place`, and `named` says whether the column at `place`
-/// has the name. `TwoColumns` if one before it and it have the name.
 fn found_up_to(found: Option<usize>, place: usize, named: bool) -> Result<Option<usize>, RunFault>
     ensures { (has : ℕ → Bool) → named ≡ has place → IsSoFar has place found
         → IsNext has (place + 1) result }

@@ -1,9 +1,5 @@
 //! The day of the first frame that is believed, and how many frames have a time and are not
-//! believed. Each record is a frame of the track; its verdict says whether the frame is fine, and
-//! what its elements say. `held` says of each record, at the same place, from 0, whether its frame
-//! is believed: whether another frame near it supports its time, or with `settings.alone` whether
-//! it has a time at all. `timed` gives the fields of a frame that has a time, else `None`: the
-//! frame is fine and ends within its minute.
+//! believed.
 
 ghost use Rattle.std.specs.Prelude.{◌≡◌, ◌≤◌, ◌<◌, Some, slice_get, length};
 ghost use Rattle.irig_index.specs.declared.record.Record.{Record};

@@ -1,7 +1,4 @@
-//! The header of the lines is read: the first `settings.header` lines. It is read in parts and kept
-//! in memory, as far as it was read (`header`). The last part can reach past it. An error is
-//! `LongHeader` if the header does not end in the first 1 MiB, `ReadFailed` if a read fails,
-//! `TooManyReads` after 2^32 reads, or `OutOfMemory`.
+//! The header of the lines is read: the first `settings.header` lines.
 
 ghost use Rattle.std.specs.Prelude.{◌≡◌, ◌≤◌, ◌<◌, ℕ, List, length, Option, IfErr, IfOk};
 ghost use Rattle.std.specs.Prelude.{if◌then◌else◌, ◌==◌};
@@ -28,8 +25,7 @@ struct Header {
 }
 
 /// Reads the lines until those of the header have ended, or until nothing is left to read: the
-/// caller sees then whether the header is there. Returns all bytes that were read. The errors are
-/// those of the head of this file.
+/// caller sees then whether the header is there.
 pub fn read_header<R: Read>(
     alloc: Global,
     lines: &mut R,
@@ -56,10 +52,7 @@ pub fn read_header<R: Read>(
     Err(RunFault::TooManyReads)
 }
 
-/// Reads a part of the lines into the buffer, and adds it to the header. Returns whether no more
-/// reads are needed: all lines of the header have ended, or nothing is left to read. If more are
-/// needed, and 1 MiB or more was read in all, it is `LongHeader`. Bytes in memory have far fewer
-/// than 2^64 newlines, so their count never saturates.
+/// Reads a part of the lines into the buffer, and adds it to the header.
 fn read_more<R: Read>(
     lines: &mut R,
     buffer: &mut [u8; READ_LIMIT],
@@ -102,7 +95,6 @@ pub fn newlines(bytes: &[u8]) -> usize
     count
 }
 
-/// 1 for a newline, and 0 for another byte.
 fn newline(byte: u8) -> usize
     ensures value { result ≡ (if byte == 10 then 1 else 0) }
     ensures bound { result ≤ 1 }

@@ -76,7 +76,7 @@ fn differs(places: usize, unit: Option<usize>) -> bool
     }
 }
 
-/// The unit of the last word that has one. A name has no more words than bytes.
+/// The unit of the last word that has one.
 fn header_unit(name: &[u8]) -> Option<usize>
     ensures { result ≡ header_unit name.now }
 {

@@ -1,7 +1,4 @@
-//! What is known of the times of a track. A part is pulses in a row whose times are known from one
-//! frame. A frame is believed if another one near it supports its time, or with `settings.alone` if
-//! it has a time at all. `Whys` say why other moments have no time. A `Lens` shows the pulses of a
-//! track, and a `FrameLens` its frames. `settings.micros` is the track's length in microseconds.
+//! What is known of the times of a track.
 
 ghost use Rattle.std.specs.Prelude.{◌≡◌, ◌≤◌, IfOk, IfSome, is_some, length};
 ghost use Rattle.irig_index.specs.Frames.{frames};
@@ -24,8 +21,7 @@ pub struct Known {
 }
 
 /// What is known of the times of a track: the pulses that have one, and if `settings.why` asks for
-/// it, why others have none. A record is a frame of the track, and `held` says of each, at the same
-/// place, whether it is believed. `Err` means that memory ran out.
+/// it, why others have none.
 pub fn known_of(
     alloc: Global,
     pulses: &mut Lens<'_>,
@@ -47,8 +43,7 @@ pub fn known_of(
     Ok(Known { parts, whys })
 }
 
-/// Why moments of the track have no time; `None` if `settings.why` does not ask for it. `held` says
-/// of each record whether its frame is believed. `Err` means that memory ran out.
+/// Why moments of the track have no time; `None` if `settings.why` does not ask for it.
 fn whys_of(
     alloc: Global,
     pulses: &mut Lens<'_>,

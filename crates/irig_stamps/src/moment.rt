@@ -1,8 +1,4 @@
-//! The time of year at a recorder's time, or why it has none. A recorder's time (`picos`) is in
-//! picoseconds from the recorder's zero; a moment is in picoseconds after the start of the track.
-//! The offset (`settings.offset`) is the recorder's time at that start. `pulses` is the track's
-//! pulses, `parts` which of them have a time, and `whys` why the others have none; `time_by` and
-//! `why_at` give the time of year of a moment, and why it has none.
+//! The time of year at a recorder's time, or why it has none.
 
 ghost use Rattle.std.specs.Prelude.{◌≡◌, ◌↔◌, ◌<◌, ◌≤◌, ◌^◌, ◌-◌, Option, Some, min, option_map};
 ghost use Rattle.irig_times.specs.Counted.{timed_parts};
@@ -18,8 +14,7 @@ use irig_codes::Format;
 use irig_times::{Part, Time, Why, Whys, time_by, why_at};
 use irig_track::Lens;
 
-/// A moment so late, in picoseconds after the start of a track, has no time: 2^62. A track has at
-/// most 2^40 microseconds, which is less.
+/// A moment so late, in picoseconds after the start of a track, has no time: 2^62.
 const LATE: u128 = 4_611_686_018_427_387_904;
 
 /// A moment after the end of each track, in picoseconds after its start: 2^62, as `LATE`.
@@ -29,10 +24,7 @@ const END: u64 = 4_611_686_018_427_387_904;
 const PICOS: u128 = 1_000_000;
 
 /// A recorder's time less the offset, as two numbers of picoseconds without a sign: the first less
-/// the second. So it is how long after the start of the track the recorder's time is. The time goes
-/// to the first number, or if it is below zero (`negative`) to the second. The offset goes to the
-/// second, or if it is below zero (`early`) to the first. No sum saturates: a time is at most
-/// 2^120, as `number` gives it, and an offset 2^119.
+/// the second.
 fn span(settings: &Settings<'_>, picos: Picos) -> (u128, u128)
     requires { settings.now.offset ≤ 2 ^ 119 }
     ensures added { result.0 ≡ min (added settings.now picos) (2 ^ 128 - 1) }
@@ -47,7 +39,7 @@ fn span(settings: &Settings<'_>, picos: Picos) -> (u128, u128)
 }
 
 /// When a recorder's time is, in picoseconds after the start of the track: that of the number in a
-/// column, if there is one. `None` if that is not in the track: before its start, or after its end.
+/// column, if there is one.
 pub fn moment_of(settings: &Settings<'_>, number: Option<Picos>) -> Option<u128>
     requires { settings.now.offset ≤ 2 ^ 119 }
     ensures { (v : Option Picos) → number ≡ option_map capped v
@@ -69,8 +61,7 @@ pub fn moment_of(settings: &Settings<'_>, number: Option<Picos>) -> Option<u128>
 }
 
 /// The time of year at a recorder's time; `None` if its moment has none, is before the track
-/// starts, or is later than any track is long (`LATE`). A size of 2^120 picoseconds means that or
-/// more (`number`), which is too far from zero to have a time.
+/// starts, or is later than any track is long (`LATE`).
 pub fn time_of(
     pulses: &mut Lens<'_>,
     parts: &[Part],
@@ -100,9 +91,7 @@ pub fn time_of(
 }
 
 /// Why a recorder's time has no time of year: `Before` if it is before the track starts, else what
-/// `why_at` gives for its moment. A moment that is later than any track is long (`LATE`) has the
-/// reason of `END`, since all moments after the end have one reason. Callers ask only if `time_of`
-/// gives none; else the result means nothing.
+/// `why_at` gives for its moment.
 pub fn why_of(
     pulses: &mut Lens<'_>,
     whys: &Whys,

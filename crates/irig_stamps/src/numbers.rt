@@ -1,9 +1,4 @@
-//! The decimal number in a column, times 10^`places`, as a whole number. A `Picos` is its sign and
-//! its size, which is the number without the sign. A size is rounded up if `up`, else down. A size
-//! above 2^120 counts as 2^120, since no recorder's time that far from zero has a time of year.
-//! `None` means that the text is no number. `integer` and `fraction` are the digits before the
-//! point and after it, in ASCII, and `rest` is the text after what was read so far. `cut` parts a
-//! text before the first byte of a kind. White space is a space, a tab or a carriage return.
+//! The decimal number in a column, times 10^`places`, as a whole number.
 
 ghost use Rattle.std.specs.Prelude.{◌≡◌, ◌^◌, ℕ, List, min, option_map, false, true};
 ghost use Rattle.irig_stamps.specs.Columns.{before, onward};
@@ -17,9 +12,7 @@ use crate::picos::Picos;
 use crate::point::{divided_by_power, point_right, times_power, with_digits};
 
 /// The number in a column, if it is one: maybe a sign, digits, maybe a point and digits, and maybe
-/// an exponent, with white space round it; else `None`. A unit of the column is 10^`places`
-/// picoseconds, and the result is in picoseconds, rounded down, also if it is negative. If its size
-/// is above 2^120, the size is 2^120.
+/// an exponent, with white space round it; else `None`.
 pub fn number(places: usize, text: &[u8]) -> Option<Picos>
     ensures { result ≡ option_map capped (number_in places text.now) }
 {
@@ -27,8 +20,7 @@ pub fn number(places: usize, text: &[u8]) -> Option<Picos>
     signed(places, text)
 }
 
-/// The number of a text, maybe with a sign before its first digit. White space before it is passed
-/// already. `None` if the text is no number.
+/// The number of a text, maybe with a sign before its first digit.
 fn signed(places: usize, text: &[u8]) -> Option<Picos>
     ensures { result ≡ option_map capped (signed places text.now) }
 {
@@ -39,15 +31,14 @@ fn signed(places: usize, text: &[u8]) -> Option<Picos>
     }
 }
 
-/// The number of a text whose minus is passed already. Its size is rounded up, so the number itself
-/// is rounded down.
+/// The number of a text whose minus is passed already.
 fn negative(places: usize, text: &[u8]) -> Option<Picos>
     ensures { result ≡ option_map capped (below (size_in true places text.now)) }
 {
     below_zero(size_in(true, places, text))
 }
 
-/// The number of a text that has no sign, or whose plus is passed already. It is rounded down.
+/// The number of a text that has no sign, or whose plus is passed already.
 fn positive(places: usize, text: &[u8]) -> Option<Picos>
     ensures { result ≡ option_map capped (above (size_in false places text.now)) }
 {
@@ -81,8 +72,6 @@ fn below_zero(size: Option<u128>) -> Option<Picos>
 }
 
 /// The whole number that a text is, if it has only digits and at least one; 2^120 if it is greater.
-/// `None` for any other text, also for one with white space. `with_digits` gives the value of
-/// digits that come after another value, here 0.
 pub fn whole(text: &[u8]) -> Option<u128>
     ensures { result ≡ option_map (λ v. min v (2 ^ 120)) (whole_in text.now) }
 {
@@ -105,9 +94,7 @@ fn size_in(up: bool, places: usize, text: &[u8]) -> Option<u128>
     with_fraction(up, places, integer, rest)
 }
 
-/// The size of a number with the digits `integer` before its point. `rest` is what is after them:
-/// nothing, a point with digits after it, an exponent or white space. With anything else it is no
-/// number: `None`, as for a point without a digit after it.
+/// The size of a number with the digits `integer` before its point.
 fn with_fraction(up: bool, places: usize, integer: &[u8], rest: &[u8]) -> Option<u128>
     ensures { result ≡ option_map (λ v. min v (2 ^ 120))
         (with_fraction up places integer.now rest.now) }
@@ -125,9 +112,7 @@ fn with_fraction(up: bool, places: usize, integer: &[u8], rest: &[u8]) -> Option
     }
 }
 
-/// The size of a number with these digits before its point and after it. `rest` is what is after
-/// both: nothing, an exponent, which begins with an e, or white space. With anything else it is no
-/// number: `None`.
+/// The size of a number with these digits before its point and after it.
 fn with_exponent(
     up: bool,
     places: usize,
@@ -145,9 +130,7 @@ fn with_exponent(
     }
 }
 
-/// The size of a number with these digits and an exponent. `rest` is what is after its e: maybe a
-/// sign, then digits and maybe white space (`with_power`). With a minus the number is divided by
-/// that power of 10, with a plus or no sign it is multiplied.
+/// The size of a number with these digits and an exponent.
 fn after_e(up: bool, places: usize, integer: &[u8], fraction: &[u8], rest: &[u8]) -> Option<u128>
     ensures { result ≡ option_map (λ v. min v (2 ^ 120))
         (after_e up places integer.now fraction.now rest.now) }
@@ -159,10 +142,7 @@ fn after_e(up: bool, places: usize, integer: &[u8], fraction: &[u8], rest: &[u8]
     }
 }
 
-/// The size of a number with these digits and an exponent, whose sign is passed already. `rest`
-/// begins with the digits of the exponent. The number is divided by that power of 10 if the
-/// exponent has a minus (`left`), else multiplied. `None` if the exponent has no digit, or if more
-/// than white space is after them.
+/// The size of a number with these digits and an exponent, whose sign is passed already.
 fn with_power(
     up: bool,
     left: bool,

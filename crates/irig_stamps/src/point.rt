@@ -1,9 +1,4 @@
-//! A decimal number whose point is moved. `integer` is the digits before the point and `fraction`
-//! those after it, in ASCII. The result is a whole number: digits after the moved point are
-//! dropped. If `up` and one of these is not 0, the result is one more. A result above 2^120 counts
-//! as 2^120. `power` is an exponent of 10; it is at most 2^120, which stands for any greater one.
-//! `places` is one, too: the number is in units of 10^`places` picoseconds, and the result in
-//! picoseconds.
+//! A decimal number whose point is moved.
 
 ghost use Rattle.std.specs.Prelude.{◌≡◌, ◌≤◌, ◌^◌, ◌+◌, ◌*◌, ◌-◌, ◌∷◌, ℕ, suc, List, min};
 ghost use Rattle.std.specs.Prelude.{drop, false, true, ◌&&◌, ◌||◌};
@@ -11,11 +6,10 @@ ghost use Rattle.irig_stamps.specs.Points.{digits_after, has_weight, padded, rou
 
 use crate::cutting::{Until, cut};
 
-/// The greatest result: 2^120. Greater ones are all too far from zero to have a time.
+/// The greatest result: 2^120.
 const MOST: u128 = 1_329_227_995_784_915_872_903_807_060_280_344_576;
 
-/// The number times 10^(`places` + `power`): the point goes to the right. It is rounded as the head
-/// of this file says.
+/// The number times 10^(`places` + `power`): the point goes to the right.
 pub fn times_power(up: bool, places: usize, power: u128, integer: &[u8], fraction: &[u8]) -> u128
     requires { power ≤ 2 ^ 120 }
     ensures { (e : ℕ) → power ≡ min e (2 ^ 120)
@@ -34,8 +28,6 @@ pub fn times_power(up: bool, places: usize, power: u128, integer: &[u8], fractio
 }
 
 /// The number times 10^`places`, divided by 10^`power`, and rounded as the head of this file says.
-/// If `power` is above `places` the point goes to the left (`point_left`), else to the right
-/// (`point_right`).
 pub fn divided_by_power(
     up: bool,
     places: usize,
@@ -55,9 +47,7 @@ pub fn divided_by_power(
     }
 }
 
-/// The number times 10^`right`. The point goes to the right: the first `right` digits of the
-/// fraction come before it, with zeros if it has fewer. The rest of the fraction only says whether
-/// the result is one more.
+/// The number times 10^`right`.
 pub fn point_right(up: bool, right: usize, integer: &[u8], fraction: &[u8]) -> u128
     ensures { result ≡ min (rounded up right 0 integer.now fraction.now) (2 ^ 120) }
 {
@@ -66,9 +56,7 @@ pub fn point_right(up: bool, right: usize, integer: &[u8], fraction: &[u8]) -> u
     with_one(one_more, value)
 }
 
-/// The number divided by 10^`left`. The point goes to the left: the last `left` digits of
-/// `integer`, and all of the fraction, come after it. If `integer` has no more digits than that,
-/// none is before the point: the result is 0, or 1 if it is rounded up.
+/// The number divided by 10^`left`.
 fn point_left(up: bool, left: u128, integer: &[u8], fraction: &[u8]) -> u128
     ensures { result ≡ min (rounded up 0 left integer.now fraction.now) (2 ^ 120) }
 {
@@ -78,15 +66,12 @@ fn point_left(up: bool, left: u128, integer: &[u8], fraction: &[u8]) -> u128
     with_one(one_more, value)
 }
 
-/// Whether a number is rounded up, if `digits` and then `others` are after its point: if `up` says
-/// so and one of these digits is not 0.
 fn rounds_up(up: bool, digits: &[u8], others: &[u8]) -> bool
     ensures { result ≡ (up && (has_weight digits.now || has_weight others.now)) }
 {
     up && (has_nonzero(digits) || has_nonzero(others))
 }
 
-/// The value plus 1 if `more`, but at most 2^120; else the value as it is.
 fn with_one(more: bool, value: u128) -> u128
     requires { value ≤ 2 ^ 120 }
     ensures { result ≡ min (with_one more value) (2 ^ 120) }
@@ -101,7 +86,6 @@ fn digits_after_first(count: usize, digits: &[u8]) -> &[u8]
     &digits[count.min(digits.len())..]
 }
 
-/// Whether some digit is not 0; `false` if there is no digit.
 fn has_nonzero(digits: &[u8]) -> bool
     ensures { result ≡ has_weight digits.now }
 {
@@ -109,9 +93,7 @@ fn has_nonzero(digits: &[u8]) -> bool
     !left.is_empty()
 }
 
-/// A value with one more decimal digit, in ASCII, after it: 10 times the value, and the digit. If
-/// that is greater than 2^120, it is 2^120. A value above a tenth of 2^120 is looked at first, so
-/// that nothing overflows. A digit in ASCII is not below `0`, so the subtraction does not saturate.
+/// A value with one more decimal digit, in ASCII, after it: 10 times the value, and the digit.
 fn with_digit(value: u128, digit: u8) -> u128
     requires { value ≤ 2 ^ 120 }
     ensures value { result ≡ min (10 * value + (digit - 48)) (2 ^ 120) }
@@ -124,8 +106,7 @@ fn with_digit(value: u128, digit: u8) -> u128
     }
 }
 
-/// A value with more decimal digits, in ASCII, after it: 7 with `35` is 735. If that is greater
-/// than 2^120, it is 2^120. With the value 0 it is the value of the digits alone.
+/// A value with more decimal digits, in ASCII, after it: 7 with `35` is 735.
 pub fn with_digits(value: u128, digits: &[u8]) -> u128
     requires { value ≤ 2 ^ 120 }
     ensures { result ≡ min (digits_after value digits.now) (2 ^ 120) }
@@ -138,8 +119,7 @@ pub fn with_digits(value: u128, digits: &[u8]) -> u128
 }
 
 /// A value with the first `places` digits of a fraction after it, and zeros for digits that the
-/// fraction does not have: 7 with 3 places of `35` is 7350. If that is greater than 2^120, it is
-/// 2^120.
+/// fraction does not have: 7 with 3 places of `35` is 7350.
 fn padded(value: u128, places: usize, fraction: &[u8]) -> u128
     requires { value ≤ 2 ^ 120 }
     ensures { result ≡ min (digits_after value (padded places fraction.now)) (2 ^ 120) }
@@ -154,8 +134,7 @@ fn padded(value: u128, places: usize, fraction: &[u8]) -> u128
     value
 }
 
-/// The first digit of a fraction, in ASCII, and the digits after it. After the last digit come
-/// zeros without end: an empty fraction gives 0 and the empty fraction again.
+/// The first digit of a fraction, in ASCII, and the digits after it.
 fn first_digit(fraction: &[u8]) -> (u8, &[u8])
     ensures { (n : ℕ) → padded (suc n) fraction.now ≡ result.0 ∷ padded n result.1.now }
 {

@@ -1,6 +1,5 @@
 //! What comes out for the lines is printed: `text` is that of the lines that have ended, so far as
-//! it is not printed yet. A `RunFault` says why the run over the lines is broken off, and a
-//! `TakeFault` why a byte of them was not taken.
+//! it is not printed yet.
 
 ghost use Rattle.std.specs.Prelude.{◌≡◌, ◌↔◌, [], OnOk, IfOk};
 ghost use Rattle.std.specs.{IoError.error_kind};
@@ -10,9 +9,7 @@ use crate::fault::{PrintFault, RunFault, TakeFault};
 use std::io;
 use std::io::{ErrorKind, Write};
 
-/// Prints the text and makes it empty. Returns `ended` as it was given: whether the lines were read
-/// to their end, which the callers hand on. If the output fails it is `PrintFailed`; a front of the
-/// text can be printed then, and the text stays.
+/// Prints the text and makes it empty.
 pub fn print<W: Write>(out: &mut W, text: &mut Vec<u8>, ended: bool) -> Result<bool, RunFault>
     ensures printed { PrintsAll (W.contents out.old) (W.contents out.new) text.old.items result }
     ensures empty { OnOk result (text.new.items ≡ []) }
@@ -26,10 +23,7 @@ pub fn print<W: Write>(out: &mut W, text: &mut Vec<u8>, ended: bool) -> Result<b
     Ok(ended)
 }
 
-/// Why the run is broken off, if a byte of the lines was not taken (`fault`). `count` lines have
-/// ended, so the number of a line that is too long is `count` + 1. The text, of the lines before
-/// it, is printed first; `PrintFailed` if that fails. If memory ran out, nothing is printed, since
-/// the text can end in the middle of a line.
+/// Why the run is broken off, if a byte of the lines was not taken (`fault`).
 pub fn stop<W: Write>(out: &mut W, text: &[u8], count: u64, fault: TakeFault) -> RunFault
     ensures { Stops (W.contents out.old) (W.contents out.new) text.now count fault result }
 {
@@ -42,8 +36,7 @@ pub fn stop<W: Write>(out: &mut W, text: &[u8], count: u64, fault: TakeFault) ->
     }
 }
 
-/// Writes all of the bytes, by as many writes as it takes. A write that fails or takes no byte ends
-/// it with an error; a front of the bytes can be out then.
+/// Writes all of the bytes, by as many writes as it takes.
 pub fn put_all<W: Write>(out: &mut W, bytes: &[u8]) -> Result<(), PrintFault>
     ensures { Prints (W.contents out.old) (W.contents out.new) bytes.now result }
 {

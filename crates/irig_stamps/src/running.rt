@@ -1,11 +1,4 @@
 //! The run over the lines: it reads them in parts, and prints each line with its stamp before it.
-//! The stamp is the time of a track at the line's recorder's time, which is the number in one of
-//! its columns, or a word if it has none. `state` is how far the lines were read: the front of the
-//! line that has not ended, how many have ended, and what is counted of them (`tally`).
-//! `text` is what comes out for the lines that have ended and is not printed yet. `pulses` is the
-//! track's pulses, and `known` which of them have a time. A step (`run_one_read`, `put_part`,
-//! `end_last_line`) returns whether the lines were read to their end. A `RunFault` says why the run
-//! is broken off. The bounds of `settings` keep each year in four digits, and each sum in its type.
 
 ghost use Rattle.std.specs.Prelude.{◌≡◌, ◌≤◌, ◌<◌, ◌^◌, [], ℕ, List, Option, true, false, OnOk, IfOk};
 ghost use Rattle.std.specs.Prelude.{IfSome};
@@ -28,8 +21,7 @@ use std::alloc::Global;
 use std::io::{Read, Write};
 
 /// Takes `before`, the bytes of the lines that were read already, reads the rest to its end, and
-/// prints each line with its stamp before it. Returns what is counted of the lines after the
-/// header; or why the run is broken off. What was printed until then stays.
+/// prints each line with its stamp before it.
 pub fn run<R: Read, W: Write>(
     alloc: Global,
     before: &[u8],
@@ -62,9 +54,7 @@ pub fn run<R: Read, W: Write>(
     }
 }
 
-/// Reads the rest of the lines and prints what comes out for it. Returns what is counted of the
-/// lines after the header, also of those before the rest (`state.tally`). `TooManyReads` if the
-/// lines have not ended after 2^32 reads; other errors are those of `run_one_read`.
+/// Reads the rest of the lines and prints what comes out for it.
 fn run_rest<R: Read, W: Write>(
     lines: &mut R,
     out: &mut W,
@@ -108,9 +98,7 @@ fn run_rest<R: Read, W: Write>(
     Err(RunFault::TooManyReads)
 }
 
-/// Reads a part of the lines and prints what comes out for it. If nothing was left to read, it ends
-/// the last line, and returns `true`; else `false`. `ReadFailed` if the read fails; other errors
-/// are those of `end_last_line` and `put_part`.
+/// Reads a part of the lines and prints what comes out for it.
 fn run_one_read<R: Read, W: Write>(
     lines: &mut R,
     out: &mut W,
@@ -154,9 +142,7 @@ fn run_one_read<R: Read, W: Write>(
     )
 }
 
-/// Takes a part of the lines and prints what comes out for it. Returns `false`: more can follow. If
-/// a byte cannot be taken, the error is that of `stop`, which first prints the text if a line is
-/// too long. `PrintFailed` if the output fails.
+/// Takes a part of the lines and prints what comes out for it.
 fn put_part<W: Write>(
     out: &mut W,
     state: &mut Progress,
@@ -189,8 +175,6 @@ fn put_part<W: Write>(
 }
 
 /// Ends the last line, if bytes came after the last newline, and prints what comes out for it.
-/// Returns `true`: the lines were read to their end. The error is `OutOfMemory`, or `PrintFailed`
-/// if the output fails.
 fn end_last_line<W: Write>(
     out: &mut W,
     state: &mut Progress,

@@ -35,9 +35,9 @@ pub struct Settings<'a> {
     pub century: u32,
     /// The year of the first frame that is believed, if frames carry no year.
     pub year: Option<u32>,
-    /// The day of that frame in its year, from 1. `align` finds it.
+    /// The day of that frame in its year, from 1.
     pub first_day: u32,
-    /// How long the track is, in microseconds. `align` finds it.
+    /// How long the track is, in microseconds.
     pub micros: u64,
     /// Whether each fine frame is believed, and not only those that another one supports.
     pub alone: bool,

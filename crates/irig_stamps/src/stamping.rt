@@ -1,10 +1,4 @@
-//! What comes out for a line: the line as it was, with its stamp before it. The stamp is the time
-//! of year at the line's recorder's time, or a word if it has none; a line of the header has a word
-//! instead. The recorder's time is the number in the column `settings.column`. `settings.comma` is
-//! the byte between columns; if it is `None`, columns are parted by white space. `count` is how
-//! many lines are before the line. `pulses` is the track's pulses, and `known` which of them have a
-//! time. The bounds of `settings` keep each year in four digits, and each sum in its type. An
-//! `AllocError` says that memory ran out; the text can have a part of what was to be added then.
+//! What comes out for a line: the line as it was, with its stamp before it.
 
 ghost use Rattle.std.specs.Prelude.{◌≡◌, ◌<◌, ◌≤◌, ◌^◌, ◌++◌, ◌∷◌, [], ℕ, List, Some};
 ghost use Rattle.std.specs.Prelude.{IfOk, IfSome, OnOk, unwrap_or};
@@ -26,7 +20,7 @@ use irig_track::Lens;
 use std::alloc::AllocError;
 
 /// Adds what comes out for a line: if it is in the header the word of `header_word` and the line,
-/// else the stamp and the line. Returns what is seen of the line.
+/// else the stamp and the line.
 pub fn put_line_out(
     text: &mut Vec<u8>,
     pulses: &mut Lens<'_>,
@@ -54,7 +48,7 @@ pub fn put_line_out(
     put_stamped(text, pulses, known, format, settings, count, line)
 }
 
-/// What is seen of a line of the header. `count` lines are before it.
+/// What is seen of a line of the header.
 fn header_look(settings: &Settings<'_>, count: u64, line: &[u8]) -> Look
     ensures { result ≡ header_look settings.now count line.now }
 {
@@ -72,8 +66,7 @@ fn header_look(settings: &Settings<'_>, count: u64, line: &[u8]) -> Look
 }
 
 /// The word before a line of the header: before its last line the name of the new column of times
-/// (`settings.name`), before each other one a hyphen. `count` lines are before the line; the caller
-/// has seen that it is in the header.
+/// (`settings.name`), before each other one a hyphen.
 fn header_word<'a>(settings: &Settings<'a>, count: u64) -> &'a [u8]
     requires { count < settings.now.header }
     ensures { header_word settings.now count ≡ Some result.now }
@@ -86,8 +79,7 @@ fn header_word<'a>(settings: &Settings<'a>, count: u64) -> &'a [u8]
     }
 }
 
-/// Adds a line that is not in the header, with its stamp before it. Returns what is seen of it.
-/// If its column has no number, the stamp is a hyphen.
+/// Adds a line that is not in the header, with its stamp before it.
 fn put_stamped(
     text: &mut Vec<u8>,
     pulses: &mut Lens<'_>,
@@ -135,8 +127,6 @@ fn begins(text: &[u8]) -> bool
     }
 }
 
-/// Adds what comes after a stamp or word: a separator, the line and a newline. The separator is the
-/// byte between columns, or a tab if white space parts them (`None`).
 fn put_separated(text: &mut Vec<u8>, comma: Option<u8>, line: &[u8]) -> Result<(), AllocError>
     ensures { OnOk result
         (text.new.items ≡ text.old.items ++ (unwrap_or comma 9 ∷ line.now ++ 10 ∷ [])) }

@@ -1,9 +1,4 @@
-//! A table of the frames of a track that have a time. Each record is a frame of the track, and
-//! `held` says of each, at the same place, from 0, whether it is believed: whether another frame
-//! near it supports its time, or with `settings.alone` whether it has a time at all. A frame's
-//! period is its duration. `settings` say how a time is written; their bounds keep each year in
-//! four digits. `format` is the track's code. An `AllocError` says that memory ran out; a text can
-//! have a part of what was to be added then.
+//! A table of the frames of a track that have a time.
 
 ghost use Rattle.std.specs.Prelude.{◌≡◌, ◌≤◌, ◌<◌, ◌++◌, ℕ, List, Some, slice_get, length, IfOk};
 ghost use Rattle.std.specs.Prelude.{IfSome, OnOk, Option};
@@ -28,10 +23,7 @@ use irig_track::Lens;
 use std::alloc::{AllocError, Global};
 use std::io::Write;
 
-/// Prints the table of a recording: a row for each frame that has a time. Returns whether one of
-/// these frames is believed, and how many are not. The table is made before it is printed, so
-/// nothing is printed if memory runs out (`OutOfMemory`). `PrintFailed` if the output fails: a
-/// front of the table can be printed then.
+/// Prints the table of a recording: a row for each frame that has a time.
 pub fn list<W: Write>(
     alloc: Global,
     recording: LongRecording,
@@ -47,10 +39,7 @@ pub fn list<W: Write>(
     list_track(alloc, &mut Lens::of(&recording), out, format, settings)
 }
 
-/// Prints the table of the track that a lens shows, with the results and errors of `list`. First it
-/// finds which frames are believed (`held`), the day of the first of these, and how many frames
-/// have a time and are not believed. The year of a frame that carries none depends on that first
-/// day.
+/// Prints the table of the track that a lens shows, with the results and errors of `list`.
 fn list_track<W: Write>(
     alloc: Global,
     pulses: &mut Lens<'_>,
@@ -90,8 +79,7 @@ fn list_track<W: Write>(
     }
 }
 
-/// The text of the table: a row for each record whose frame has a time, in order. `Err` means that
-/// memory ran out.
+/// The text of the table: a row for each record whose frame has a time, in order.
 fn table(
     alloc: Global,
     pulses: &mut Lens<'_>,
@@ -114,8 +102,7 @@ fn table(
     Ok(text)
 }
 
-/// Adds the row of the record at a place, from 0; nothing if its frame has no time. `start_of`
-/// gives when the frame begins, its time, and whether the next one follows.
+/// Adds the row of the record at a place, from 0; nothing if its frame has no time.
 fn put_frame(
     text: &mut Vec<u8>,
     pulses: &mut Lens<'_>,
@@ -143,7 +130,7 @@ fn put_frame(
 }
 
 /// Adds the row of a frame, by its start; nothing if there is no start, since the frame has no
-/// time. `held` is whether the frame is believed (`held_at`).
+/// time.
 fn put_start(
     text: &mut Vec<u8>,
     settings: &Settings<'_>,
@@ -161,8 +148,7 @@ fn put_start(
 }
 
 /// Adds the row of a frame: the microsecond of the track at which it begins (`rise`), its time, and
-/// the word of `answer`. Between them is `settings.comma`, or a tab if that is `None`. `held` is
-/// whether the frame is believed.
+/// the word of `answer`.
 fn put_row(
     text: &mut Vec<u8>,
     settings: &Settings<'_>,
@@ -185,7 +171,7 @@ fn put_row(
 
 /// The last word of a row: `yes` if the frame is believed and the next one follows it one period
 /// later (`is_followed`), `no` if it is believed and the next one does not, `unsupported` if it is
-/// not believed. `None` counts as not believed; a record that is there never has it.
+/// not believed.
 fn answer<'a>(held: Option<bool>, is_followed: bool) -> &'a [u8]
     ensures { result.now ≡ answer_of held is_followed }
 {

@@ -1,9 +1,4 @@
-//! Bytes of lines are taken, as they come. `state` is how far the lines were read: the front of the
-//! line that has not ended (`line`), how many have ended (`count`), and what is counted of those
-//! after the header (`tally`). `text` is what comes out for those that have ended: each with its
-//! stamp before it, which is the time of year at the recorder's time that the number is, or a word.
-//! `pulses` is the track's pulses, and `known` which of them have a time. The bounds of `settings`
-//! keep each year in four digits, and each sum in its type.
+//! Bytes of lines are taken, as they come.
 
 ghost use Rattle.std.specs.Prelude.{◌≡◌, ◌≢◌, ◌≤◌, ◌<◌, ◌^◌, ◌∷◌, [], OnOk, IfSome};
 ghost use Rattle.irig_stamps.specs.Reasons.{IsKnownOf};
@@ -21,9 +16,7 @@ use std::alloc::AllocError;
 /// The most bytes of a line, its newline not counted: 1 MiB.
 const LINE_LIMIT: usize = 1_048_576;
 
-/// Takes a byte. If it is a newline, the line so far ends (`end_line`), and the only error is
-/// `OutOfMemory`. Any other byte is added to the line (`push_byte`), and an error can be `TooLong`,
-/// too.
+/// Takes a byte.
 fn take_byte(
     state: &mut Progress,
     text: &mut Vec<u8>,
@@ -51,8 +44,7 @@ fn take_byte(
     }
 }
 
-/// Adds a byte, which is no newline, to the line so far. `TooLong`, and nothing changes, if the
-/// line has 1 MiB already; `OutOfMemory` if memory runs out.
+/// Adds a byte, which is no newline, to the line so far.
 fn push_byte(state: &mut Progress, byte: u8) -> Result<(), TakeFault>
     requires plain { byte ≢ 10 }
     ensures { PushesAs byte state.old state.new result }
@@ -66,8 +58,7 @@ fn push_byte(state: &mut Progress, byte: u8) -> Result<(), TakeFault>
     }
 }
 
-/// Ends the line so far: adds what comes out for it to the text, counts it, and makes it empty. If
-/// memory runs out, the line stays, and the text can have a part of what comes out.
+/// Ends the line so far: adds what comes out for it to the text, counts it, and makes it empty.
 pub fn end_line(
     state: &mut Progress,
     text: &mut Vec<u8>,
@@ -94,9 +85,7 @@ pub fn end_line(
     Ok(())
 }
 
-/// Takes some bytes, in order. They can begin and end in the middle of a line, and have many lines.
-/// A fault is that of the first byte that cannot be taken (`take_byte`); those before it are taken,
-/// and those after it are not.
+/// Takes some bytes, in order.
 pub fn take_part(
     state: &mut Progress,
     text: &mut Vec<u8>,

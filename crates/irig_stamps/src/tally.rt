@@ -1,5 +1,4 @@
-//! What is counted of the lines of a run, but for those of the header. In a contract, `IsTally`
-//! says what each count is, by what is seen of the lines.
+//! What is counted of the lines of a run, but for those of the header.
 
 ghost use Rattle.std.specs.Prelude.{◌≡◌, ◌++◌, ◌∷◌, ◌||◌, [], List};
 ghost use Rattle.irig_stamps.specs.declared.look.Look.{Look};
@@ -28,7 +27,7 @@ pub struct Uneven {
     pub header: usize,
 }
 
-/// What is counted of lines after the header. Each count stays at 2^64 - 1, if it is that or more.
+/// What is counted of lines after the header.
 #[derive(Clone, Copy)]
 pub struct Tally {
     /// How many there are.
@@ -77,7 +76,6 @@ impl Tally {
     }
 }
 
-/// Whether at least one of two holds.
 fn either(one: bool, other: bool) -> bool
     ensures { result ≡ (one || other) }
 {
@@ -92,7 +90,7 @@ fn headed(width: Option<usize>, look: Look) -> Option<usize>
 }
 
 /// A line, if it is after the header and has another number of columns than the last line of the
-/// header, which has `width`. `None` if a number is not known.
+/// header, which has `width`.
 fn uneven_next(width: Option<usize>, look: Look) -> Option<Uneven>
     ensures { result ≡ uneven_next width look }
 {
@@ -106,7 +104,6 @@ fn uneven_next(width: Option<usize>, look: Look) -> Option<Uneven>
     }
 }
 
-/// The first of two lines, if there are any.
 fn first_of(one: Option<Uneven>, other: Option<Uneven>) -> Option<Uneven>
     ensures { result ≡ first_of one other }
 {
@@ -116,14 +113,12 @@ fn first_of(one: Option<Uneven>, other: Option<Uneven>) -> Option<Uneven>
     }
 }
 
-/// A count, and one more if that is asked for; it stays at 2^64 - 1.
 fn add_one(count: u64, more: bool) -> u64
     ensures { result ≡ add_one count more }
 {
     if more { count.saturating_add(1) } else { count }
 }
 
-/// A span that has one more moment, too, if there is one.
 fn widened(span: Option<Span>, moment: Option<u128>) -> Option<Span>
     ensures { result ≡ widened span moment }
 {

@@ -1,7 +1,4 @@
-//! Times as texts, each added to the end of `text`. Days of the year, months and days of a month
-//! count from 1. A `Time` has the day of the year, hours, minutes, and in `micros` the microseconds
-//! since the minute began. The bounds of `settings` keep each year in four digits. An `AllocError`
-//! says that memory ran out; a part of what was to be added can be in `text` then.
+//! Times as texts, each added to the end of `text`.
 
 ghost use Rattle.std.specs.Prelude.{◌≡◌, ◌<◌, ◌≤◌, ◌^◌, ◌++◌, ◌∷◌, ◌+◌, ◌*◌, decimal, drop, length};
 ghost use Rattle.std.specs.Prelude.{OnOk, IfSome};
@@ -45,8 +42,7 @@ pub fn put_time_or_hyphen(
 }
 
 /// Adds a time in the form of the settings, in the year of `year_in`: the time's own year, or one
-/// counted from that of the settings. A hyphen if the form is `Calendar` and the time has no date,
-/// as its year is not known or has no such day.
+/// counted from that of the settings.
 fn put_time(text: &mut Vec<u8>, settings: &Settings<'_>, time: &Time) -> Result<(), AllocError>
     requires century { settings.now.century ≤ 99 }
     requires year { IfSome settings.now.year (λ y. y ≤ 9998) }
@@ -61,8 +57,7 @@ fn put_time(text: &mut Vec<u8>, settings: &Settings<'_>, time: &Time) -> Result<
     }
 }
 
-/// Adds a time of year, as `YYYY-DDDThh:mm:ss.ffffff`, with the day's number in the year. If the
-/// year is not known, `YYYY-` is left out.
+/// Adds a time of year, as `YYYY-DDDThh:mm:ss.ffffff`, with the day's number in the year.
 fn put_ordinal(text: &mut Vec<u8>, year: Option<u32>, time: &Time) -> Result<(), AllocError>
     ensures { OnOk result (text.new.items ≡ text.old.items ++ ordinal_text year time.now) }
 {
@@ -71,8 +66,7 @@ fn put_ordinal(text: &mut Vec<u8>, year: Option<u32>, time: &Time) -> Result<(),
     text.extend_from_slice(&clock(time))
 }
 
-/// Adds a year of four digits and a hyphen; nothing if the year is not known. Callers give at most
-/// 9999; of a greater year only the last four digits would be added.
+/// Adds a year of four digits and a hyphen; nothing if the year is not known.
 fn put_year(text: &mut Vec<u8>, year: Option<u32>) -> Result<(), AllocError>
     ensures { OnOk result (text.new.items ≡ text.old.items ++ year_text year) }
 {
@@ -89,8 +83,7 @@ fn put_year(text: &mut Vec<u8>, year: Option<u32>) -> Result<(), AllocError>
 }
 
 /// Adds a time as `YYYY-MM-DDThh:mm:ss.ffffff`; a hyphen if it has no date (`date_in`): the year is
-/// not known, or has no such day, as day 366 of a year of 365 days. The year is at most 9999, where
-/// the calendar ends.
+/// not known, or has no such day, as day 366 of a year of 365 days.
 fn put_calendar(text: &mut Vec<u8>, year: Option<u32>, time: &Time) -> Result<(), AllocError>
     requires { IfSome year (λ y. y ≤ 9999) }
     ensures { OnOk result (text.new.items ≡ text.old.items ++ calendar_text year time.now) }
@@ -105,7 +98,7 @@ fn put_calendar(text: &mut Vec<u8>, year: Option<u32>, time: &Time) -> Result<()
     }
 }
 
-/// Adds the seconds since midnight, with six decimals: the microseconds. Year and day are left out.
+/// Adds the seconds since midnight, with six decimals: the microseconds.
 fn put_seconds(text: &mut Vec<u8>, time: &Time) -> Result<(), AllocError>
     ensures { OnOk result (text.new.items ≡ text.old.items ++ seconds_text time.now) }
 {
@@ -113,16 +106,14 @@ fn put_seconds(text: &mut Vec<u8>, time: &Time) -> Result<(), AllocError>
     text.extend_from_slice(&fraction(time.micros))
 }
 
-/// The whole seconds since midnight. `micros` counts from the start of the minute and can have
-/// second 60, which counts as second 0 of the next minute: at the end of the day it gives 86,400.
+/// The whole seconds since midnight.
 fn day_seconds(time: &Time) -> u64
     ensures { result ≡ day_seconds time.now }
 {
     3600 * time.hours as u64 + 60 * time.minutes as u64 + time.micros / 1_000_000
 }
 
-/// Adds a whole number in decimal. `write_digits` writes its digits to the end of `digits`, from
-/// the place `start` on.
+/// Adds a whole number in decimal.
 pub fn put_number(text: &mut Vec<u8>, number: u64) -> Result<(), AllocError>
     ensures { OnOk result (text.new.items ≡ text.old.items ++ decimal number) }
 {
@@ -131,7 +122,6 @@ pub fn put_number(text: &mut Vec<u8>, number: u64) -> Result<(), AllocError>
     text.extend_from_slice(&digits[start..])
 }
 
-/// A day of the year, from 1, as `DDD`.
 fn day(days: u32) -> [u8; 3]
     ensures { result ≡ day_text days }
 {
@@ -142,7 +132,6 @@ fn day(days: u32) -> [u8; 3]
     ]
 }
 
-/// A month and a day of it, as `MM-DD`.
 fn date(month: u32, day: u32) -> [u8; 5]
     ensures { result ≡ date_text month day }
 {
@@ -155,8 +144,7 @@ fn date(month: u32, day: u32) -> [u8; 5]
     ]
 }
 
-/// The time of a day, as `Thh:mm:ss.ffffff`. `micros` counts from the start of the minute, so it
-/// has the seconds, too; they can be 60.
+/// The time of a day, as `Thh:mm:ss.ffffff`.
 fn clock(time: &Time) -> [u8; 16]
     ensures { result ≡ clock_text time.now }
 {
@@ -180,7 +168,7 @@ fn clock(time: &Time) -> [u8; 16]
     ]
 }
 
-/// The part of a second in some microseconds, as `.ffffff`. Whole seconds in them are left out.
+/// The part of a second in some microseconds, as `.ffffff`.
 fn fraction(micros: u64) -> [u8; 7]
     ensures { result ≡ fraction_text micros }
 {
