@@ -100,7 +100,7 @@ impl<'a> Prices<'a> {
     fn tremble(&self, interval: u64, off: u64, count: u64) -> u64
         requires { interval < 2 ^ 27 }
         ensures exact { result ≡ tremble self.now interval off count }
-        ensures small { result ≤ 16 }
+        ensures small { result ≤ 48 }
     {
         if 4 * interval < off {
             return TREMBLE;
@@ -113,7 +113,7 @@ impl<'a> Prices<'a> {
         requires order { rise < later }
         requires later { later < length self.now.pulses.now }
         ensures exact { result ≡ least self.now role rise later }
-        ensures small { result < 2 ^ 59 + 16 }
+        ensures small { result < 2 ^ 59 + 48 }
         ensures few { gone self.now rise later ≤ 2 ^ 49 }
     {
         let gone = self.gone(rise, later);

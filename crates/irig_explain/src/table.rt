@@ -21,7 +21,7 @@ pub(crate) const OFF_LINE: u64 = 80;
 
 /// The same of a step in time and of a jump, at most: after these a rise can be anywhere. If they
 /// paid nothing for it, a jump would be cheaper than going on to a rise that is a little late.
-pub(crate) const TREMBLE: u64 = 16;
+pub(crate) const TREMBLE: u64 = 48;
 
 /// Elements without a rise, whatever their number: a hole is an event.
 pub(crate) const MISSING: u64 = 72;
