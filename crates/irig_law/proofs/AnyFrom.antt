@@ -1,5 +1,5 @@
 -- Loops that look for one of some places, or sum over them.
-use Rattle.std.proofs.Common.{◌≡◌, ◌<◌, ◌≤◌, ◌+◌, ◌-◌, ◌||◌, ℕ, zero, suc, Bool, true, false, arith, ap, ◌∙◌}
+use Rattle.std.proofs.Common.{◌≡◌, ◌<◌, ◌≤◌, ◌+◌, ◌-◌, ◌||◌, ℕ, suc, Bool, true, false, arith, ap, ◌∙◌}
 use Rattle.irig_law.specs.OfOne.{any_from, sum_from}
 
 module _ (test : ℕ → Bool) (k to : ℕ) where

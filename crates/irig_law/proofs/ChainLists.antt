@@ -1,5 +1,5 @@
 -- Lists that are made item by item: of the chains of frames, of the frames that read well, and of those that are kept.
-use Rattle.std.proofs.Common.{◌≡◌, inl, inr, ◌<◌, ◌≤◌, ◌+◌, ◌++◌, ◌&&◌, ℕ, nat_lt, not, zero, suc, Bool, true, false, List, [], ◌∷◌, length, drop, slice_get, Option, Some, None, arith, refl, sym, ap, ◌∙◌, append_assoc}
+use Rattle.std.proofs.Common.{◌≡◌, inl, inr, ◌≤◌, ◌+◌, ◌++◌, ◌&&◌, ℕ, nat_lt, not, zero, suc, Bool, true, false, List, [], ◌∷◌, length, drop, slice_get, Some, arith, refl, sym, ap, ◌∙◌}
 use Rattle.std.proofs.lemmas.{Bool.cases_Bool, Bool.ltb-true, Option.none-some, Option.same_Some}
 use Rattle.irig_codes.specs.Format.{FormatView}
 use Rattle.irig_law.specs.{Believed.believed_in, Believed.chain_after, Believed.is_true_at, Believed.kept, Believed.kept_from, Believed.with_frame}

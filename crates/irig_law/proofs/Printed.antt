@@ -1,7 +1,7 @@
 -- What is printed is the true time.
-use Rattle.std.proofs.Common.{◌≡◌, ◌⊎◌, inl, inr, ◌<◌, ◌≤◌, ◌+◌, ◌-◌, ◌*◌, ◌/◌, ◌%◌, ◌==◌, ℕ, List, Bool, false, Option, Some, None, arith, refl, sym, ap, ◌∙◌, subst}
+use Rattle.std.proofs.Common.{◌≡◌, ◌⊎◌, inl, inr, ◌<◌, ◌≤◌, ◌+◌, ◌-◌, ◌*◌, ◌/◌, ◌%◌, ◌==◌, ℕ, List, Bool, Option, Some, None, arith, refl, sym, ap, ◌∙◌, subst}
 use Rattle.std.specs.Prelude.{◌&&◌, nat_le, nat_lt, option_map, if◌then◌else◌}
-use Rattle.std.proofs.lemmas.Bool.{and_parts, cases_lt, cond_both, eqb-false, eqb-true, leb-false, leb-true, ltb-false, ltb-true}
+use Rattle.std.proofs.lemmas.Bool.{and_parts, cases_lt, cond_both, eqb-false, eqb-true, leb-false, leb-true, ltb-true}
 use Rattle.std.proofs.lemmas.Option.{none-some, same_Some}
 use Rattle.irig_codes.specs.Format.{FormatView, frame_period_of, interval_of}
 use Rattle.irig_codes.specs.declared.{fields.Fields.Fields, format.Kind.Kind}
@@ -14,7 +14,7 @@ use Rattle.irig_law.specs.Hours.{at_hour, earlier_in_hour, hour_micros, later_in
 use Rattle.irig_law.specs.{Law.IsMarker, Law.IsOnFirst, Law.IsOnSecond}
 use Rattle.irig_law.specs.Printed.{CountsOn, IsLater, printed, true_time}
 use Rattle.irig_law.specs.Rows.{rise_in, row_after, row_before, runs_in}
-use Rattle.irig_law.specs.Stories.{Eventful, Quiet, SentAfter, SentBefore}
+use Rattle.irig_law.specs.Stories.{Quiet, SentAfter, SentBefore}
 use Rattle.irig_law.specs.Stretches.{are_alike, first_of, middle_element, named_after, named_before, quiet_of}
 use Rattle.irig_law.specs.Theorems.{BeginTimesAreTrue, EndTimesAreTrue, EventfulTimesAreTrue, QuietTimesAreTrue}
 use Rattle.irig_law.specs.declared.{point.Point.Point, frame.Frame.Frame, names.Seen.Seen}

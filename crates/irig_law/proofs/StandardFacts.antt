@@ -1,6 +1,6 @@
 -- Known values, worked by hand and proved of the definitions by computing. Format B: an interval is 10,000 microseconds, so the 99
 -- intervals of a frame last 990,000.
-use Rattle.std.proofs.Common.{◌≡◌, ℕ, Bool, true, false, List, [], ◌∷◌, Option, Some, None, map, refl}
+use Rattle.std.proofs.Common.{◌≡◌, ℕ, Bool, true, false, [], ◌∷◌, Option, Some, None, map, refl}
 use Rattle.std.specs.Prelude.{get_or}
 use Rattle.irig_times.specs.declared.time.Time.{Time}
 use Rattle.irig_codes.specs.Format.{FormatView}
@@ -9,8 +9,7 @@ use Rattle.irig_law.specs.{Bound.rate_of, Bound.units_of, Bridge.off, Elements.e
 use Rattle.irig_law.specs.Calendar.{micros_after}
 use Rattle.irig_law.specs.Hours.{earlier_in_hour, later_in_hour}
 use Rattle.irig_law.specs.declared.{clock.Clock.Clock, frame.Frame.Frame}
-use Rattle.irig_law.specs.declared.names.Seen.{Seen}
-use Rattle.irig_law.specs.declared.names.Seen.TheVariants.{Named, Astray, Unknown}
+use Rattle.irig_law.specs.declared.names.Seen.TheVariants.{Named, Astray}
 
 -- a clock of B that strays by two parts in a hundred thousand
 abbrev clock : Clock

@@ -1,5 +1,5 @@
 -- Which pulses deny what they should be by a frame. This project's own.
-use Rattle.std.specs.Prelude.{◌≡◌, ℕ, ◌+◌, ◌-◌, ◌&&◌, ◌||◌, nat_le, Bool, true, false, List, Option}
+use Rattle.std.specs.Prelude.{ℕ, ◌-◌, ◌&&◌, ◌||◌, nat_le, Bool, true, false, List, Option}
 use Rattle.std.specs.Prelude.{Some, None, slice_get, if◌then◌else◌}
 use Rattle.irig_codes.specs.{Encoding.encoded, Fields.fits_in, Format.FormatView}
 use Rattle.irig_codes.specs.declared.width.Element.{Element}

@@ -1,5 +1,5 @@
 -- The elements before and after the marker of a frame that has a time. This project's own.
-use Rattle.std.specs.Prelude.{ℕ, ◌+◌, ◌-◌, ◌/◌, ◌%◌, Option, Some, None, option_map, Bool, if◌then◌else◌}
+use Rattle.std.specs.Prelude.{ℕ, ◌+◌, ◌-◌, ◌/◌, ◌%◌, Option, option_map, Bool, if◌then◌else◌}
 use Rattle.irig_codes.specs.Format.{FormatView, frame_period_of}
 use Rattle.irig_times.specs.declared.time.Time.{Time}
 use Rattle.irig_law.specs.Hours.{earlier_in_hour, later_in_hour}

@@ -1,6 +1,6 @@
 -- What a frame at an end of the recording says of a pulse, if it is known whether a pulse denies,
 -- and how many pulses are in step with the frame. This project's own.
-use Rattle.std.specs.Prelude.{◌≡◌, ℕ, ◌+◌, ◌-◌, ◌<◌, ◌&&◌, ◌||◌, ◌==◌, nat_le, nat_lt, not, Bool}
+use Rattle.std.specs.Prelude.{◌≡◌, ℕ, ◌+◌, ◌-◌, ◌<◌, ◌&&◌, ◌||◌, ◌==◌, nat_le, nat_lt, Bool}
 use Rattle.std.specs.Prelude.{List, slice_get, Option, Some, None, if◌then◌else◌}
 use Rattle.irig_codes.specs.Format.{FormatView}
 use Rattle.irig_law.specs.Elements.{element_after, element_before}

@@ -6,7 +6,6 @@ use Rattle.irig_recording.specs.declared.pulse.Pulse.{Pulse}
 use Rattle.irig_index.specs.{Frames.frames, declared.record.Record.Record}
 use Rattle.irig_times.specs.{Times.time_in, Times.timed, Torn.micros_between}
 use Rattle.irig_law.specs.declared.fine.Fine.{Fine}
-use Rattle.irig_law.specs.declared.frame.Frame.{Frame}
 
 -- when a pulse rises
 abbrev pub rise_of : Option Pulse → ℕ

@@ -1,14 +1,14 @@
 -- THE LAW OF TIME between two believed frames next to each other: which element each pulse is, if
 -- that is known. A stretch goes from the marker of the first frame to the last element of the
 -- second one that carries its time. This project's own.
-use Rattle.std.specs.Prelude.{◌≡◌, ◌⊎◌, ℕ, zero, suc, ◌+◌, ◌-◌, ◌*◌, ◌≤◌, ◌<◌, ◌==◌, nat_le, nat_lt}
+use Rattle.std.specs.Prelude.{ℕ, zero, suc, ◌+◌, ◌-◌, ◌*◌, ◌==◌, nat_le, nat_lt}
 use Rattle.std.specs.Prelude.{Bool, true, List, [], ◌∷◌, Option, Some, None, if◌then◌else◌}
 use Rattle.irig_codes.specs.Format.{FormatView}
 use Rattle.irig_recording.specs.declared.pulse.Pulse.{Pulse}
 use Rattle.irig_times.specs.OtherTimes.{time_elements}
 use Rattle.irig_law.specs.{Clocks.slack_of, Denials.denies_first, Denials.denies_second}
 use Rattle.irig_law.specs.{Denials.seen_after, Denials.seen_before, Elements.element_after}
-use Rattle.irig_law.specs.{Elements.element_before, Fits.Fits, Sides.IsAfter, Sides.IsBefore}
+use Rattle.irig_law.specs.{Elements.element_before}
 use Rattle.irig_law.specs.declared.point.Point.{Point}
 use Rattle.irig_law.specs.declared.frame.Frame.{Frame}
 use Rattle.irig_law.specs.declared.names.Seen.{Seen}

@@ -1,4 +1,4 @@
-use Rattle.std.proofs.Common.{◌≡◌, Bool, List, arith, ap, ◌∙◌}
+use Rattle.std.proofs.Common.{Bool, List, arith, ap, ◌∙◌}
 use Rattle.irig_law.specs.{Believed.is_true_at, Believed.kept, Chains.chains_of, OfOne.is_right}
 use Rattle.irig_law.proofs.ChainLists.{kept-same, not-one}
 use Rattle.irig_law.proofs.believed.believed_in.Goals as goal

@@ -1,4 +1,4 @@
-use Rattle.std.proofs.Common.{◌≡◌, ◌+◌, ◌++◌, ◌∷◌, ℕ, Bool, List, [], drop, arith, ap, sym, ◌∙◌, append_assoc}
+use Rattle.std.proofs.Common.{◌+◌, ◌++◌, ℕ, Bool, List, [], drop, arith, ap, sym, ◌∙◌, append_assoc}
 use Rattle.std.proofs.lemmas.List.{append-nil}
 use Rattle.irig_law.specs.Believed.{chain_after, is_true_at, kept, kept_from, with_frame}
 use Rattle.irig_law.specs.declared.{fine.Fine.Fine, frame.Frame.Frame}

@@ -1,4 +1,4 @@
-use Rattle.std.proofs.Common.{◌≡◌, ◌≤◌, ◌&&◌, Bool, false, ℕ, length, nat_lt, nat_le, arith, sym, ap, ◌∙◌}
+use Rattle.std.proofs.Common.{◌≡◌, Bool, ℕ, length, arith, sym, ap, ◌∙◌}
 use Rattle.irig_law.specs.OfOne.{is_right}
 use Rattle.irig_law.proofs.ChainLists.{right-past, rights-are}
 use Rattle.irig_law.proofs.Each.{at-more, one-longer}

@@ -1,4 +1,4 @@
-use Rattle.std.proofs.Common.{◌≡◌, List, ap, sym, ◌∙◌}
+use Rattle.std.proofs.Common.{List, ap, ◌∙◌}
 use Rattle.irig_law.specs.OfOne.{is_right}
 use Rattle.irig_law.specs.declared.chain.Chain.{Chain}
 use Rattle.irig_law.proofs.believed.rights_of.Goals as goal

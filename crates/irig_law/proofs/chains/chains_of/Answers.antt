@@ -1,4 +1,4 @@
-use Rattle.std.proofs.Common.{◌≡◌, ◌+◌, ◌++◌, ◌∷◌, List, [], drop, length, arith, ap, sym, ◌∙◌}
+use Rattle.std.proofs.Common.{◌+◌, ◌++◌, List, drop, arith, ap, sym, ◌∙◌}
 use Rattle.irig_law.specs.Chains.{chains_from, chains_of}
 use Rattle.irig_law.specs.declared.{chain.Chain.Chain, fine.Fine.Fine}
 use Rattle.irig_law.proofs.ChainLists.{drop-at, drop-end, first-drop}

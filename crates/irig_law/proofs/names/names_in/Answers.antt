@@ -1,5 +1,5 @@
-use Rattle.std.proofs.Common.{◌≡◌, ◌-◌, ◌+◌, ◌*◌, ◌^◌, ◌≤◌, ◌<◌, ℕ, Some, arith, refl, sym, ap, ◌∙◌}
-use Rattle.irig_law.specs.{Names.moved, Names.seen, Names.seen_at, Rows.rise_in, Rows.runs_in}
+use Rattle.std.proofs.Common.{◌≡◌, ◌+◌, ◌*◌, ◌^◌, ◌≤◌, ℕ, arith, refl, ap, ◌∙◌}
+use Rattle.irig_law.specs.{Names.seen, Names.seen_at, Rows.rise_in, Rows.runs_in}
 use Rattle.irig_law.specs.declared.names.Seen.{Seen}
 use Rattle.irig_law.specs.declared.names.Seen.TheVariants.{Named}
 use Rattle.irig_law.proofs.{Each.all-more, Each.each-more, Each.one-longer}

@@ -1,4 +1,4 @@
-use Rattle.std.proofs.Common.{◌≡◌, ◌+◌, ◌-◌, ℕ, ap, sym, ◌∙◌}
+use Rattle.std.proofs.Common.{◌-◌, ℕ, ap, sym, ◌∙◌}
 use Rattle.irig_law.specs.OfOne.{any_from, surrounds}
 use Rattle.irig_law.proofs.AnyFrom.{any-here, any-next, any-none}
 use Rattle.irig_law.proofs.of_one.is_doubted.Goals as goal

@@ -1,4 +1,4 @@
-use Rattle.std.proofs.Common.{◌≡◌, ◌+◌, ◌-◌}
+use Rattle.std.proofs.Common.{◌≡◌, ◌-◌}
 use Rattle.irig_law.specs.OfOne.{any_from, surrounds}
 use Rattle.irig_law.proofs.of_one.is_doubted.Given as goal
 

@@ -1,4 +1,4 @@
-use Rattle.std.proofs.Common.{◌≡◌, ◌≤◌, ◌+◌, ◌-◌, ◌*◌, ◌^◌, ℕ, arith, ap, length, min, sym, ◌∙◌}
+use Rattle.std.proofs.Common.{◌≡◌, ◌+◌, ◌-◌, ℕ, arith, ap, length, min, ◌∙◌}
 use Rattle.irig_law.specs.OfOne.{share, sum_from}
 use Rattle.irig_law.proofs.AnyFrom.{sum-more, sum-none}
 use Rattle.irig_law.proofs.of_one.size_of.Goals as goal

@@ -1,4 +1,4 @@
-use Rattle.std.proofs.Common.{◌≡◌, ◌-◌, ℕ, List, slice_get, Option, Some, refl, arith, sym, ap, ◌∙◌, subst}
+use Rattle.std.proofs.Common.{◌≡◌, ℕ, List, slice_get, Option, Some, refl, arith, sym, ap, ◌∙◌, subst}
 use Rattle.irig_recording.specs.declared.pulse.Pulse.{Pulse}
 use Rattle.irig_law.specs.{Clocks.slack_of, Happened.HasHappened, Happened.IsPointBy, Seens.SeenAfter, Seens.SeenBefore}
 use Rattle.irig_law.specs.declared.{names.Seen.Seen, point.Point.Point}
