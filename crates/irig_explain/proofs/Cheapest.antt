@@ -1,5 +1,5 @@
 -- The cheapest explanation of some prices is that of their recording.
-use Rattle.std.proofs.Common.{◌≡◌, ◌≤◌, ℕ, List, sym, subst}
+use Rattle.std.proofs.Common.{◌≡◌, ◌≤◌, ℕ, List, subst}
 use Rattle.std.specs.Prelude.{Result, Ok, Err, IfOk}
 use Rattle.irig_explain.specs.declared.{claim.Claim.Claim, explanation.Explanation.Explanation}
 use Rattle.irig_explain.specs.declared.{prices.Prices.Prices, pulse.Pulse.Pulse, rises.Rises.Rises, role.Role.Role}

@@ -1,5 +1,5 @@
 -- How far the elements between two rises reach, by the clock.
-use Rattle.std.proofs.Common.{◌≡◌, ◌+◌, ◌*◌, ◌/◌, ◌^◌, ◌<◌, ◌≤◌, ℕ, max, arith, subst}
+use Rattle.std.proofs.Common.{◌+◌, ◌*◌, ◌/◌, ◌<◌, ◌≤◌, ℕ, max, arith}
 use Rattle.std.proofs.Math.Nat.{mul-le-mul_right, mul-div-le}
 
 -- the elements that lie between, and five more

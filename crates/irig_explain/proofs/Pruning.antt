@@ -1,5 +1,5 @@
 -- How much more a jump costs than any other step.
-use Rattle.std.proofs.Common.{◌≡◌, ◌+◌, ◌<◌, ◌≤◌, ◌&&◌, ◌∙◌, ℕ, Bool, true, false, Option, Some, None, if◌then◌else◌, max, min, nat_lt, length, sym, refl, ap, subst, inl, inr, arith}
+use Rattle.std.proofs.Common.{◌≡◌, ◌+◌, ◌<◌, ◌≤◌, ◌&&◌, ℕ, Bool, true, false, Option, Some, None, if◌then◌else◌, max, min, nat_lt, length, refl, arith}
 use Rattle.std.proofs.Math.Nat.{min-le_left}
 use Rattle.std.proofs.lemmas.Bool.{ltb-true}
 use Rattle.irig_explain.specs.declared.{claim.Kind.Kind, prices.Prices.Prices, role.Role.Role}

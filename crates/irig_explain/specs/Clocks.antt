@@ -1,5 +1,5 @@
 -- The clock of a recording, by its rises and widths alone. This project's own.
-use Rattle.std.specs.Prelude.{ℕ, ◌≡◌, ◌+◌, ◌-◌, ◌*◌, ◌/◌, ◌==◌, Bool, List, [], ◌∷◌}
+use Rattle.std.specs.Prelude.{ℕ, ◌≡◌, ◌-◌, ◌*◌, ◌/◌, ◌==◌, Bool, List, [], ◌∷◌}
 use Rattle.std.specs.Prelude.{length, map, max, min, nat_le, slice_index_or, if◌then◌else◌}
 use Rattle.std.specs.{List.sum_by, Int.abs_diff}
 use Rattle.irig_explain.specs.declared.{clock.Clock.Clock, distance.Distance.Distance}

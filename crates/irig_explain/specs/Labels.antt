@@ -1,6 +1,6 @@
 -- The places that steps give in a recording: how far elements are ahead of a steady clock. This
 -- project's own.
-use Rattle.std.specs.Prelude.{ℕ, ◌+◌, ◌-◌, ◌*◌, ◌/◌, ◌%◌, length, max}
+use Rattle.std.specs.Prelude.{ℕ, ◌+◌, ◌*◌, ◌/◌, length, max}
 use Rattle.irig_explain.specs.declared.{claim.Kind.Kind, prices.Prices.Prices}
 use Rattle.irig_explain.specs.declared.claim.Kind.TheVariants.{Next, Step, Jump}
 use Rattle.irig_explain.specs.declared.table.TheConstants.{PART}

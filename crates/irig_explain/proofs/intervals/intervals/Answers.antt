@@ -1,4 +1,4 @@
-use Rattle.std.proofs.Common.{◌≡◌, take}
+use Rattle.std.proofs.Common.{take}
 use Rattle.irig_explain.proofs.Placing.{steady}
 use Rattle.irig_explain.proofs.intervals.intervals.Goals as goal
 

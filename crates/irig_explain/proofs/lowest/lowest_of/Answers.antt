@@ -1,7 +1,6 @@
-use Rattle.std.proofs.Common.{◌≡◌, ◌<◌, ◌≤◌, ℕ, Some, slice_get, subst, sym, arith, inl, inr}
+use Rattle.std.proofs.Common.{◌≡◌, ◌≤◌, Some, slice_get, subst, arith, inl, inr}
 use Rattle.std.proofs.lemmas.Bool.{cases_lt}
 use Rattle.std.proofs.lemmas.Option.{get_or_from_slice_get}
-use Rattle.irig_explain.specs.declared.nodes.Node.{Node}
 use Rattle.irig_explain.proofs.Members.{at_contains, no_node}
 use Rattle.irig_explain.proofs.lowest.lowest_of.Goals as goal
 

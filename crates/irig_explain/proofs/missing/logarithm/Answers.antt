@@ -1,6 +1,6 @@
-use Rattle.std.proofs.Common.{◌≡◌, ◌+◌, ◌-◌, ◌/◌, ◌≤◌, ◌∙◌, ℕ, zero, suc, refl, arith}
+use Rattle.std.proofs.Common.{◌≡◌, ◌+◌, ◌/◌, ◌≤◌, ◌∙◌, ℕ, zero, suc, refl, arith}
 use Rattle.irig_explain.specs.Missing.{halved}
-use Rattle.irig_explain.proofs.Halved.{halved_high, halved_low, halved_same}
+use Rattle.irig_explain.proofs.Halved.{halved_high, halved_same}
 use Rattle.irig_explain.proofs.missing.logarithm.Goals as goal
 
 -- one halving

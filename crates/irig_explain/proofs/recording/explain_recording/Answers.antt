@@ -1,5 +1,4 @@
-use Rattle.std.proofs.Common.{◌≡◌, ◌*◌, sym, subst}
-use Rattle.irig_explain.specs.Clocks.{IsClock}
+use Rattle.std.proofs.Common.{◌*◌}
 use Rattle.irig_explain.proofs.Cheapest.{is_cheapest}
 use Rattle.irig_explain.proofs.recording.explain_recording.Goals as goal
 

@@ -1,4 +1,4 @@
-use Rattle.std.proofs.Common.{◌≡◌, ◌*◌, ◌∙◌, length, ap}
+use Rattle.std.proofs.Common.{◌*◌, ◌∙◌, length, ap}
 use Rattle.std.proofs.lemmas.List.{length-map}
 use Rattle.irig_explain.proofs.Placing.{length_places}
 use Rattle.irig_explain.proofs.clock.Clock.measure.Goals as goal

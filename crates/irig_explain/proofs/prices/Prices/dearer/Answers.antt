@@ -1,7 +1,7 @@
-use Rattle.std.proofs.Common.{◌≡◌, ◌+◌, ◌*◌, ◌<◌, ◌≤◌, ℕ, subst, sym, arith, below_more, inl, inr}
+use Rattle.std.proofs.Common.{◌≡◌, ◌+◌, ◌*◌, ◌<◌, ◌≤◌, subst, arith, inl, inr}
 use Rattle.std.proofs.lemmas.Bool.{cases_lt}
 use Rattle.irig_explain.specs.Distances.{apart, gone, rise_at}
-use Rattle.irig_explain.specs.Wires.{element, wire_end}
+use Rattle.irig_explain.specs.Wires.{element}
 use Rattle.irig_explain.proofs.Counted.{far_many, wire_most}
 use Rattle.irig_explain.proofs.prices.Prices.dearer.Goals as goal
 

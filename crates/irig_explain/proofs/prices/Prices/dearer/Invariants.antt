@@ -1,4 +1,4 @@
-use Rattle.std.proofs.Common.{◌≡◌, ◌+◌, ◌<◌, ◌≤◌, ℕ}
+use Rattle.std.proofs.Common.{◌+◌, ◌<◌, ◌≤◌, ℕ}
 use Rattle.irig_explain.specs.Distances.{rise_at}
 use Rattle.irig_explain.specs.Wires.{element, wire_end}
 use Rattle.irig_explain.proofs.prices.Prices.dearer.Given as goal

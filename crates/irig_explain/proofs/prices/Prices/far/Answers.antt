@@ -1,5 +1,5 @@
-use Rattle.std.proofs.Common.{◌≡◌, ◌+◌, ◌*◌, ◌/◌, ◌≤◌, max, arith}
-use Rattle.irig_explain.specs.Distances.{apart, interval}
+use Rattle.std.proofs.Common.{◌+◌, ◌*◌, ◌/◌, ◌≤◌, max, arith}
+use Rattle.irig_explain.specs.Distances.{apart}
 use Rattle.irig_explain.proofs.Counts.{reach}
 use Rattle.irig_explain.proofs.prices.Prices.far.Goals as goal
 

@@ -1,5 +1,5 @@
-use Rattle.std.proofs.Common.{◌≡◌, ◌+◌, ◌<◌, ◌∙◌, ap, sym, arith}
-use Rattle.irig_explain.specs.Wires.{between, element, wire_end}
+use Rattle.std.proofs.Common.{◌≡◌, ◌<◌, ◌∙◌, ap, sym, arith}
+use Rattle.irig_explain.specs.Wires.{element, wire_end}
 use Rattle.irig_explain.proofs.Counted.{wire_more, wire_one}
 use Rattle.irig_explain.proofs.prices.Prices.wire.Goals as goal
 

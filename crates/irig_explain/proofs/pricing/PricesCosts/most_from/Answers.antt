@@ -1,8 +1,3 @@
-use Rattle.std.proofs.Common.{◌≡◌, ◌+◌, ◌<◌, ◌≤◌, ℕ, length}
-use Rattle.irig_explain.specs.declared.role.Role.{Role}
-use Rattle.irig_explain.specs.Distances.{gone}
-use Rattle.irig_explain.specs.Priced.{role_at}
-use Rattle.irig_explain.specs.Wires.{wire}
 use Rattle.irig_explain.proofs.Pruning.{jump_most}
 use Rattle.irig_explain.proofs.pricing.PricesCosts.most_from.Goals as goal
 
