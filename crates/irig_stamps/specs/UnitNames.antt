@@ -72,5 +72,5 @@ zeros_of (a ∷ b ∷ c ∷ d ∷ ds) = None
 -- that many zeros more
 abbrev pub with_zeros : Option ℕ → Option ℕ → Option ℕ
 with_zeros None unit = None
-with_zeros (Some zeros) None = None
-with_zeros (Some zeros) (Some unit) = Some (unit + zeros)
+with_zeros (Some more) None = None
+with_zeros (Some more) (Some unit) = Some (unit + more)
