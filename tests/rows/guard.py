@@ -161,6 +161,9 @@ SLIPPED = hole(SOUND[:399] + moved(SOUND[399:], lambda at: at + 100000), 2, 2)  
 SLIP = ["regen 2066667 2 2024-138T12:34:52"]
 HUNDREDTHS = [[rise // 10, fall // 10] for rise, fall in frames("A0", [
     dict(values_of("A0", NOON), hundredths=10 * k) for k in range(7)])]
+TENS = [[10 * rise, 10 * fall] for rise, fall in frames("E1", [
+    values_of("E1", NOON + datetime.timedelta(seconds=10 * k)) for k in range(7)])]
+SHORT = [[rise // 100, fall // 100] for rise, fall in frames("G1", [dict(values_of("G1", NOON), hundredths=k) for k in range(7)])]
 TURNED = [[one[1], other[0]] for one, other in zip(SOUND, SOUND[1:])]
 EARLY = SOUND[:349] + moved(SOUND[349:], lambda at: at - 7300)  # from element 49 of frame 3 on
 LATE = [*SOUND[:600], *moved(SOUND[600:], lambda at: at + 7300)]  # from frame 6 on
@@ -172,7 +175,7 @@ NOTHING_FINE = "# nothing to go by: no frame of the recording is fine"
 UNJUDGED = "no frame would be fine to go by"
 GONE = "the pulse at %d is in step, and would be gone"
 LAST_BROKEN = without(SOUND, 643)
-HUNDREDTHS_BROKEN = without(HUNDREDTHS, 643)
+HUNDREDTHS_BROKEN, TENS_BROKEN, SHORT_BROKEN = without(HUNDREDTHS, 643), without(TENS, 643), without(SHORT, 643)
 
 ALONE = without(SOUND, 343, *range(201, 300), *range(401, 500))  # frame 3, without element 42, between two holes
 TENTH = ["begin", "insert 3400900 3405900", "insert 3410000 3412000", "insert 3419100 3421100", "end"]  # elements 40 to 42
@@ -403,6 +406,8 @@ ROWS = (
     Row("pulses in step, if frames may move", "B4", LAST_BROKEN, ["650 delete"], ["650 delete"], moved=True),
     Row("a pulse in step of a broken frame between fine ones", "B4", WITHOUT_ZERO, ["260 delete"], dropped(GONE % 2600000, "260 delete")),
     Row("a pulse in step of format A", "A0", HUNDREDTHS_BROKEN, ["650 delete"], dropped(GONE % 650000, "650 delete")),
+    Row("a pulse in step of format E", "E1", TENS_BROKEN, ["650 delete"], dropped(GONE % 65000000, "650 delete")),
+    Row("a pulse in step of format G", "G1", SHORT_BROKEN, ["650 delete"], dropped(GONE % 65000, "650 delete")),
     # control functions
     Row("a control function that was lost, and that the nearest frames do not have", "B4", without(SOUND, 363),
         ["insert 3620000 3625000"], ["insert 3620000 3625000"], filled=1),
