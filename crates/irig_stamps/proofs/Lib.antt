@@ -20,3 +20,6 @@ pub mod TableRows
 pub mod DigitParts
 pub mod PrintedDigits
 pub mod Units
+pub mod HoleLaws
+pub mod HoleMoments
+pub mod HoleSteps

@@ -23,3 +23,5 @@ pub mod TrackSettings
 pub mod Uneven
 pub mod UnitNames
 pub mod Widths
+pub mod Holes
+pub mod HoleTexts

@@ -1,9 +1,4 @@
-//! What is printed before a line that is not in the header: its stamp. That is the time of year at
-//! the line's recorder's time, which is the number in one of its columns, in picoseconds. If there
-//! is no such time, the stamp is a word: a hyphen, or if `settings.why` asks for it, the reason.
-//! `pulses` is the track's pulses. `known` has those that have a time, and in `known.whys`, if
-//! `settings.why` asks for it, why moments have none. The bounds of `settings` keep each year in
-//! four digits, and each sum in its type.
+//! What is printed before a line that is not in the header: its stamp.
 
 ghost use Rattle.std.specs.Prelude.{◌≡◌, ◌≤◌, ◌^◌, ◌++◌, Option, IfSome, OnOk, option_map};
 ghost use Rattle.irig_stamps.specs.{Stamps.IsNone, Stamps.IsWord, StampTexts.stamp_text};
@@ -31,8 +26,7 @@ pub enum Stamp<'a> {
 }
 
 /// The stamp of a line whose column has this number, in picoseconds (`number`): the time of year at
-/// that recorder's time, or the word of `none_word` if it has none. If the column has no number
-/// (`None`), the stamp is a hyphen, even if `settings.why` asks for reasons.
+/// that recorder's time, or the word of `none_word` if it has none.
 pub fn stamp_of<'a>(
     pulses: &mut Lens<'_>,
     known: &Known,
@@ -78,7 +72,7 @@ fn none_word<'a>(
 }
 
 /// The word that is printed for a reason why a moment has no time.
-fn why_word<'a>(why: Why) -> &'a [u8]
+pub fn why_word<'a>(why: Why) -> &'a [u8]
     ensures { result.now ≡ why_text why }
 {
     match why {
@@ -96,8 +90,7 @@ fn why_word<'a>(why: Why) -> &'a [u8]
     }
 }
 
-/// Adds a stamp to a text: a time in the form of the settings, or a word as it is. If memory runs
-/// out (`AllocError`), the text can have a part of it.
+/// Adds a stamp to a text: a time in the form of the settings, or a word as it is.
 pub fn put_stamp(
     text: &mut Vec<u8>,
     settings: &Settings<'_>,

@@ -1,0 +1,27 @@
+use Rattle.std.proofs.Common.{◌<◌, arith}
+use Rattle.irig_times.specs.Untimed.{HasNoTime}
+use Rattle.irig_times.proofs.Reasons.{one_why}
+use Rattle.irig_stamps.proofs.{HoleMoments.all-timed, HoleMoments.all-untimed, HoleSteps.both-ok, HoleSteps.up-to-more, HoleSteps.up-to-timed}
+use Rattle.irig_stamps.proofs.hole_list.add_between.Goals as goal
+
+pub returns-in-None-clause-grown : goal.returns-in-None-clause-grown
+returns-in-None-clause-grown c =
+    let s = c.args.settings.now in
+    let t = c.args.pulses.now.track in
+    let some : c.args.begin < c.args.end = omega (arith, c.requires.order, c.if-begin-end.false) in
+    let timed = c.why_untimed.ensures.timed c.in-None.is in
+    let has_none = HasNoTime c.args.format s.alone s.century t.micros t.pulses in
+    up-to-timed has_none c.args.json s.comma c.args.begin c.args.end c.args.pending.now c.args.pending.now c.requires.order
+    (all-timed c.args.format s.alone s.century t.micros t.pulses c.requires.between.0 c.args.begin c.args.end c.requires.between.1 some timed.0 timed.1)
+
+pub returns-in-Some-clause-grown : goal.returns-in-Some-clause-grown
+returns-in-Some-clause-grown c =
+    let s = c.args.settings.now in
+    let t = c.args.pulses.now.track in
+    let some : c.args.begin < c.args.end = omega (arith, c.requires.order, c.if-begin-end.false) in
+    let has_none = HasNoTime c.args.format s.alone s.century t.micros t.pulses in
+    let none = all-untimed c.args.format s.alone s.century t.micros t.pulses c.requires.between.0 c.args.begin c.args.end c.requires.between.1 some
+    c.in-Some.why c.in-Some.ensures.why in
+    both-ok c.add.result _ _ _ c.add.ensures.shown c.add.ensures.untimed
+    (λ shown untimed. up-to-more has_none c.args.json s.comma c.args.begin c.args.end c.args.pending.now c.add.new.self c.in-Some.why some none
+    (one_why c.args.format s.alone s.century t.micros t.pulses) shown untimed)

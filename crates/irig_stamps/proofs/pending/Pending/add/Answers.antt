@@ -1,0 +1,22 @@
+use Rattle.std.proofs.Common.{◌≡◌, ◌++◌, ◌∷◌, Bool, false, ℕ, List, Option, Some, sym, ap, ◌∙◌, subst}
+use Rattle.std.specs.Prelude.{if◌then◌else◌}
+use Rattle.irig_stamps.specs.declared.stretch.Stretch.{Stretch}
+use Rattle.irig_stamps.specs.Holes.{stretch, touches, with_more}
+use Rattle.irig_stamps.specs.HoleTexts.{IsShown, row_of}
+use Rattle.irig_stamps.proofs.pending.Pending.add.Goals as goal
+
+pub returns-clause-shown : goal.returns-clause-shown
+returns-clause-shown c = λ stretches shown.
+    let json = c.args.json in
+    let comma = c.args.comma in
+    let last = c.in-Some.last in
+    let next = c.args.next in
+    let text = c.args.self.now.text.items in
+    let there = subst (λ (l : Option Stretch). IsShown json comma l text stretches) c.in-Some.is shown in
+    let none : touches last next ≡ false = sym c.touches.ensures ∙ c.if-touches.false in
+    (
+      last ∷ there.0,
+      ap (λ (l : List Stretch). with_more l next) there.1
+      ∙ ap (λ (b : Bool). if b then stretch last.begin next.end last.why ∷ there.0 else next ∷ last ∷ there.0) none,
+      c.in_ok-put_row.ensures ∙ ap (λ (t : List ℕ). t ++ row_of json comma last) there.2,
+    )
