@@ -1,5 +1,5 @@
 -- The stretches without a time, with one more.
-use Rattle.std.proofs.Common.{◌≡◌, ◌≢◌, ◌↔◌, ◌⊎◌, ◌&&◌, ◌==◌, ◌+◌, ◌-◌, ◌*◌, ◌<◌, ◌≤◌, ℕ, Bool, true, false, List, [], ◌∷◌, inl, inr, refl, sym, ap, ◌∙◌, subst, arith}
+use Rattle.std.proofs.Common.{◌≡◌, ◌⊎◌, ◌==◌, ◌+◌, ◌-◌, ◌*◌, ◌<◌, ◌≤◌, ℕ, Bool, true, false, List, [], ◌∷◌, inl, inr, refl, sym, ap, ◌∙◌, subst, arith}
 use Rattle.std.specs.Prelude.{if◌then◌else◌}
 use Rattle.std.proofs.Math.Nat.{mul-le-mul_left}
 use Rattle.std.proofs.lemmas.Bool.{and_from, and_parts, cases_lt, eq-eqb, eqb-true, true≢false}
@@ -76,7 +76,7 @@ module _ (s t : Stretch) (before : List Stretch) where
       more,
       le,
       λ meet same. true≢false (sym (and_from (s.end == t.begin) (number_of s.why == number_of t.why) (eq-eqb s.end t.begin meet)
-      (eq-eqb (number_of s.why) (number_of t.why) (ap number_of same))) ∙ e),
+          (eq-eqb (number_of s.why) (number_of t.why) (ap number_of same))) ∙ e),
     ),
     h,
   )

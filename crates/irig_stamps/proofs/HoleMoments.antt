@@ -13,19 +13,22 @@ use Rattle.irig_stamps.specs.Holes.{HasBegun, IsBetween}
 
 module _ (f : FormatView) (alone : Bool) (century micros : ℕ) (ps : List Pulse) (d n e m : ℕ) (same : risen_by (n / d) ps ≡ risen_by (m / e) ps) where
   pub moved : (x : Time) → IsTimed f alone century micros ps d n x → (y : Time) × IsTimed f alone century micros ps e m y
-  moved x a = (_, record {
-    number = a.number;
-    element = a.element;
-    start = a.start;
-    point = a.point;
-    next = a.next;
-    last = sym same ∙ a.last;
-    stands = a.stands;
-    stands_next = a.stands_next;
-    is_point = a.is_point;
-    goes_on = a.goes_on;
-    is = refl;
-  })
+  moved x a = (
+    _,
+    record {
+      number = a.number;
+      element = a.element;
+      start = a.start;
+      point = a.point;
+      next = a.next;
+      last = sym same ∙ a.last;
+      stands = a.stands;
+      stands_next = a.stands_next;
+      is_point = a.is_point;
+      goes_on = a.goes_on;
+      is = refl;
+    },
+  )
 
 -- a moment of a stretch is in a microsecond of it
 in-stretch : (d n begin end : ℕ) → 0 < d → d * begin ≤ n → n < d * end → (begin ≤ n / d) × (n / d < end)
@@ -35,6 +38,7 @@ in-stretch d n begin end some from to = (low, high) where
     | inl lt ↦ (let up : n / d + 1 ≤ begin = omega (arith, lt) in absurd (omega (arith, from, lt-mul-div-succ n some, mul-le-mul_left d up)))
     | inr le ↦ le
   ]
+
   high : n / d < end
   high = elim (cases_lt (n / d) end) [
     | inl lt ↦ lt
@@ -59,9 +63,9 @@ module _ (f : FormatView) (alone : Bool) (century micros : ℕ) (ps : List Pulse
       → n < d * end → HasNoTime f alone century micros ps d n why
   all-untimed why h d n pos from to =
       let same : risen_by (n / d) ps ≡ risen_by (1000000 * begin / 1000000) ps = risen-in d n pos from to ∙ sym risen-first in record {
-    none = λ x is. (let there = moved f alone century micros ps d n 1000000 (1000000 * begin) same x is in h.none there.0 there.1);
-    is = subst (λ (r : ℕ). IsWhy f (believed f alone ps) century ps r why) (sym same) h.is;
-  }
+        none = λ x is. (let there = moved f alone century micros ps d n 1000000 (1000000 * begin) same x is in h.none there.0 there.1);
+        is = subst (λ (r : ℕ). IsWhy f (believed f alone ps) century ps r why) (sym same) h.is;
+      }
 
 module _ (most micros : ℕ) (ps : List Pulse) (track : IsTrackUpTo most micros ps) where
   -- the pulses that rise in an order: before the first, after it, and after the last

@@ -1,5 +1,5 @@
 -- The text of stretches without a time, and what is known on the way. This project's own.
-use Rattle.std.specs.Prelude.{◌≡◌, ◌⊎◌, ◌-◌, ◌^◌, ℕ, Bool, true, false, List, [], ◌∷◌, ◌++◌, Option, Some}
+use Rattle.std.specs.Prelude.{◌≡◌, ◌-◌, ◌^◌, ℕ, Bool, true, false, List, [], ◌∷◌, ◌++◌, Option, Some}
 use Rattle.std.specs.Prelude.{None, Result, Ok, Err, codes, decimal, min, unwrap_or}
 use Rattle.std.specs.Io.KnownBytes.{Appends}
 use Rattle.irig_codes.specs.Format.{FormatView}
@@ -7,7 +7,7 @@ use Rattle.irig_recording.specs.declared.pulse.Pulse.{Pulse}
 use Rattle.irig_track.specs.Edges.{edges_of}
 use Rattle.irig_times.specs.{Untimed.HasNoTime, declared.why.Why.Why}
 use Rattle.irig_stamps.specs.declared.fault.RunFault.TheVariants.{PrintFailed, OutOfMemory}
-use Rattle.irig_stamps.specs.{Aligned.standing_of, Front.AppendsFront, Holes.AreHoles, Holes.AreHolesOf}
+use Rattle.irig_stamps.specs.{Aligned.standing_of, Front.AppendsFront, Holes.AreHoles}
 use Rattle.irig_stamps.specs.{Holes.total, Reasons.why_text, declared.fault.RunFault.RunFault}
 use Rattle.irig_stamps.specs.{declared.holes.Holes.Holes, declared.pending.Pending.Pending}
 use Rattle.irig_stamps.specs.{declared.settings.Settings.Settings, declared.stretch.Stretch.Stretch}

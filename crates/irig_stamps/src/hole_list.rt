@@ -18,7 +18,9 @@ use crate::stretch::Stretch;
 use irig_codes::Format;
 use irig_index::Index;
 use irig_recording::LongRecording;
-use irig_times::{FrameLens, Part, Why, Whys, find_whys, held_frames, time_by, timed_parts, why_at};
+use irig_times::{
+    FrameLens, Part, Why, Whys, find_whys, held_frames, time_by, timed_parts, why_at,
+};
 use irig_track::Lens;
 use std::alloc::{AllocError, Global};
 use std::io::Write;
@@ -40,7 +42,14 @@ pub fn list_holes<W: Write>(
     ensures { ListsHolesRecording format recording.micros recording.edges settings.now json
         (W.contents out.old) (W.contents out.new) result }
 {
-    list_track(alloc, &mut Lens::of(&recording), out, format, settings, json)
+    list_track(
+        alloc,
+        &mut Lens::of(&recording),
+        out,
+        format,
+        settings,
+        json,
+    )
 }
 
 fn list_track<W: Write>(
@@ -124,11 +133,31 @@ fn walk(
     let mut begin = 0;
     for place in 0..pulses.len() {
         let end = pulses.pulse(place).rise;
-        add_between(&mut pending, pulses, parts, whys, format, settings, json, begin, end)?;
+        add_between(
+            &mut pending,
+            pulses,
+            parts,
+            whys,
+            format,
+            settings,
+            json,
+            begin,
+            end,
+        )?;
         begin = end;
     }
     let end = pulses.length();
-    add_between(&mut pending, pulses, parts, whys, format, settings, json, begin, end)?;
+    add_between(
+        &mut pending,
+        pulses,
+        parts,
+        whys,
+        format,
+        settings,
+        json,
+        begin,
+        end,
+    )?;
     Ok(pending)
 }
 

@@ -34,12 +34,7 @@ impl Pending {
     }
 
     /// Adds a stretch, which is not before the last one.
-    pub fn add(
-        &mut self,
-        json: bool,
-        comma: Option<u8>,
-        next: Stretch,
-    ) -> Result<(), AllocError>
+    pub fn add(&mut self, json: bool, comma: Option<u8>, next: Stretch) -> Result<(), AllocError>
         requires order { next.begin ≤ next.end }
         ensures shown { OnOk result ((stretches : List Stretch)
             → IsShown json comma self.old.last self.old.text.items stretches

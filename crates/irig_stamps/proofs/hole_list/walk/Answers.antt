@@ -13,9 +13,11 @@ add_between-requires-clause-between c =
     let t = c.args.pulses.now.track in
     let p = c.pulse-end.result in
     let now : c.pulse-end.new.self.track ≡ t = ap (λ (v : LensView). v.track) c.pulse-end.ensures.counted ∙ l.invariant.same in
-    let is : slice_get t.pulses l.place ≡ Some p = subst (λ (v : TrackView). slice_get v.pulses l.place ≡ Some p) l.invariant.same c.pulse-end.ensures.value in
-    (l.place, subst (λ (v : TrackView). IsBetween v.pulses l.place l.begin p.rise) (sym now)
-    (between-next (2 ^ 26) t.micros t.pulses c.len-place-end.ensures.track l.place l.begin p is l.invariant.begun))
+    let is : slice_get t.pulses l.place ≡ Some p = subst (λ (v : TrackView). slice_get v.pulses l.place ≡ Some p) l.invariant.same c.pulse-end.ensures.value in (
+      l.place,
+      subst (λ (v : TrackView). IsBetween v.pulses l.place l.begin p.rise) (sym now)
+          (between-next (2 ^ 26) t.micros t.pulses c.len-place-end.ensures.track l.place l.begin p is l.invariant.begun),
+    )
 
 pub add_between-requires-clause-order : goal.add_between-requires-clause-order
 add_between-requires-clause-order c =
@@ -47,6 +49,8 @@ loop-place-preserved c =
 pub add_between-requires-2-clause-between : goal.add_between-requires-2-clause-between
 add_between-requires-2-clause-between c =
     let l = c.loop-place in
-    let t = c.args.pulses.now.track in
-    (l.place, λ m le lt. subst (λ (v : TrackView). risen_by m v.pulses ≡ l.place) (sym l.invariant.same)
-    (omega (arith, l.invariant.begun.after m le, risen_by-le m t.pulses, c.loop-place-test.false, c.len-place-end.ensures.len)))
+    let t = c.args.pulses.now.track in (
+      l.place,
+      λ m le lt. subst (λ (v : TrackView). risen_by m v.pulses ≡ l.place) (sym l.invariant.same)
+          (omega (arith, l.invariant.begun.after m le, risen_by-le m t.pulses, c.loop-place-test.false, c.len-place-end.ensures.len)),
+    )

@@ -1,4 +1,4 @@
-use Rattle.std.proofs.Common.{◌≡◌, ◌++◌, ◌∷◌, Bool, false, ℕ, List, Option, Some, sym, ap, ◌∙◌, subst}
+use Rattle.std.proofs.Common.{◌≡◌, ◌++◌, ◌∷◌, Bool, false, ℕ, List, Option, sym, ap, ◌∙◌, subst}
 use Rattle.std.specs.Prelude.{if◌then◌else◌}
 use Rattle.irig_stamps.specs.declared.stretch.Stretch.{Stretch}
 use Rattle.irig_stamps.specs.Holes.{stretch, touches, with_more}
@@ -13,10 +13,9 @@ returns-clause-shown c = λ stretches shown.
     let next = c.args.next in
     let text = c.args.self.now.text.items in
     let there = subst (λ (l : Option Stretch). IsShown json comma l text stretches) c.in-Some.is shown in
-    let none : touches last next ≡ false = sym c.touches.ensures ∙ c.if-touches.false in
-    (
+    let none : touches last next ≡ false = sym c.touches.ensures ∙ c.if-touches.false in (
       last ∷ there.0,
       ap (λ (l : List Stretch). with_more l next) there.1
-      ∙ ap (λ (b : Bool). if b then stretch last.begin next.end last.why ∷ there.0 else next ∷ last ∷ there.0) none,
+          ∙ ap (λ (b : Bool). if b then stretch last.begin next.end last.why ∷ there.0 else next ∷ last ∷ there.0) none,
       c.in_ok-put_row.ensures ∙ ap (λ (t : List ℕ). t ++ row_of json comma last) there.2,
     )
