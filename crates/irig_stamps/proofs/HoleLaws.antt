@@ -6,7 +6,8 @@ use Rattle.std.proofs.lemmas.Bool.{and_from, and_parts, cases_lt, eq-eqb, eqb-tr
 use Rattle.irig_times.specs.declared.why.Why.TheVariants.{After, Before, Hole, Set, Step, Unbelieved}
 use Rattle.irig_times.specs.{declared.why.Why.Why}
 use Rattle.irig_stamps.specs.declared.stretch.Stretch.{Stretch}
-use Rattle.irig_stamps.specs.Holes.{AreHoles, AreInOrder, Covers, IsAfterAll, IsIn, number_of, stretch, total, touches, with_more}
+use Rattle.irig_stamps.specs.Holes.{AreHoles, AreInOrder, Covers, IsAfterAll, IsIn}
+use Rattle.irig_stamps.specs.Joined.{number_of, stretch, total, touches, with_more}
 
 -- a reason by its number
 abbrev why_of : ℕ → Why

@@ -3,7 +3,7 @@ use Rattle.std.proofs.Common.{◌≡◌, ◌++◌, ◌+◌, ◌-◌, ◌*◌, �
 use Rattle.std.specs.Prelude.{Err, Ok, OnOk, Result}
 use Rattle.irig_times.specs.declared.why.Why.{Why}
 use Rattle.irig_stamps.specs.{declared.pending.Pending.Pending, declared.stretch.Stretch.Stretch}
-use Rattle.irig_stamps.specs.{HoleTexts.IsShown, HoleTexts.IsUpTo, HoleTexts.IsText, HoleTexts.rows, Holes.stretch, Holes.with_more}
+use Rattle.irig_stamps.specs.{HoleTexts.IsShown, HoleTexts.IsUpTo, HoleTexts.IsText, HoleRows.rows, Joined.stretch, Joined.with_more}
 use Rattle.irig_stamps.proofs.HoleLaws.{timed-more, total-more, untimed-more}
 
 module _ (has_none : ℕ → ℕ → Why → Type 0) (json : Bool) (comma : Option ℕ) where

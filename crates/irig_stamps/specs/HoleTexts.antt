@@ -1,45 +1,16 @@
 -- The text of stretches without a time, and what is known on the way. This project's own.
-use Rattle.std.specs.Prelude.{◌≡◌, ◌-◌, ◌^◌, ℕ, Bool, true, false, List, [], ◌∷◌, ◌++◌, Option, Some}
-use Rattle.std.specs.Prelude.{None, Result, Ok, Err, codes, decimal, min, unwrap_or}
+use Rattle.std.specs.Prelude.{◌≡◌, ◌-◌, ◌^◌, ℕ, Bool, List, [], ◌∷◌, Option, Some, None, Result}
+use Rattle.std.specs.Prelude.{Ok, Err, min}
 use Rattle.std.specs.Io.KnownBytes.{Appends}
 use Rattle.irig_codes.specs.Format.{FormatView}
 use Rattle.irig_recording.specs.declared.pulse.Pulse.{Pulse}
 use Rattle.irig_track.specs.Edges.{edges_of}
 use Rattle.irig_times.specs.{Untimed.HasNoTime, declared.why.Why.Why}
 use Rattle.irig_stamps.specs.declared.fault.RunFault.TheVariants.{PrintFailed, OutOfMemory}
-use Rattle.irig_stamps.specs.{Aligned.standing_of, Front.AppendsFront, Holes.AreHoles}
-use Rattle.irig_stamps.specs.{Holes.total, Reasons.why_text, declared.fault.RunFault.RunFault}
+use Rattle.irig_stamps.specs.{Aligned.standing_of, Front.AppendsFront, HoleRows.rows}
+use Rattle.irig_stamps.specs.{Holes.AreHoles, Joined.total, declared.fault.RunFault.RunFault}
 use Rattle.irig_stamps.specs.{declared.holes.Holes.Holes, declared.pending.Pending.Pending}
 use Rattle.irig_stamps.specs.{declared.settings.Settings.Settings, declared.stretch.Stretch.Stretch}
-
--- the row of a stretch: its begin, its end, how long it is, and why it has no time
-abbrev pub plain_span : ℕ → Stretch → List ℕ
-plain_span comma s = decimal s.begin ++ (comma ∷ decimal s.end ++ (comma ∷ []))
-
-abbrev pub plain_end : ℕ → Stretch → List ℕ
-plain_end comma s = decimal (s.end - s.begin) ++ (comma ∷ why_text s.why ++ (10 ∷ []))
-
-abbrev pub plain_row : ℕ → Stretch → List ℕ
-plain_row comma s = plain_span comma s ++ plain_end comma s
-
--- as an object of JSON
-abbrev pub json_span : Stretch → List ℕ
-json_span s = codes "{\"begin\":" ++ (decimal s.begin ++ (codes ",\"end\":" ++ decimal s.end))
-
-abbrev pub json_end : Stretch → List ℕ
-json_end s = codes ",\"why\":\"" ++ (why_text s.why ++ codes "\"}\n")
-
-abbrev pub json_row : Stretch → List ℕ
-json_row s = json_span s ++ json_end s
-
-abbrev pub row_of : Bool → Option ℕ → Stretch → List ℕ
-row_of true comma s = json_row s
-row_of false comma s = plain_row (unwrap_or comma 9) s
-
--- the rows of stretches, which are from the last to the first
-abbrev pub rows : Bool → Option ℕ → List Stretch → List ℕ
-rows json comma [] = []
-rows json comma (s ∷ before) = rows json comma before ++ row_of json comma s
 
 -- the rows of all stretches but the last are in a text
 abbrev pub IsShown : Bool → Option ℕ → Option Stretch → List ℕ → List Stretch → Type 0

@@ -23,5 +23,7 @@ pub mod TrackSettings
 pub mod Uneven
 pub mod UnitNames
 pub mod Widths
+pub mod Joined
 pub mod Holes
+pub mod HoleRows
 pub mod HoleTexts

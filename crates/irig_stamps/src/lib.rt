@@ -34,6 +34,7 @@ mod taking;
 mod tally;
 mod text;
 mod unit_names;
+mod untimed;
 
 pub use aligning::align;
 pub use fault::{PrintFault, RunFault};

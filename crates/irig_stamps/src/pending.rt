@@ -2,9 +2,10 @@
 
 ghost use Rattle.std.specs.Prelude.{◌≡◌, ◌≤◌, ◌+◌, ◌-◌, ◌^◌, ◌++◌, [], List, None, IfOk, OnOk, min};
 ghost use Rattle.irig_stamps.specs.declared.stretch.Stretch.{Stretch};
-ghost use Rattle.irig_stamps.specs.Holes.{number_of, touches, with_more};
-ghost use Rattle.irig_stamps.specs.HoleTexts.{IsShown, json_end, json_row, json_span, plain_end};
-ghost use Rattle.irig_stamps.specs.HoleTexts.{plain_row, plain_span, row_of, rows};
+ghost use Rattle.irig_stamps.specs.Joined.{number_of, touches, with_more};
+ghost use Rattle.irig_stamps.specs.HoleRows.{hole_row, json_end, json_row, json_span, plain_end};
+ghost use Rattle.irig_stamps.specs.{HoleRows.plain_row, HoleRows.plain_span, HoleRows.rows};
+ghost use Rattle.irig_stamps.specs.{HoleTexts.IsShown};
 
 use crate::stamp::why_word;
 use crate::stretch::Stretch;
@@ -100,7 +101,7 @@ fn put_row(
     stretch: &Stretch,
 ) -> Result<(), AllocError>
     ensures { OnOk result
-        (text.new.items ≡ text.old.items ++ row_of json comma stretch.now) }
+        (text.new.items ≡ text.old.items ++ hole_row json comma stretch.now) }
 {
     if json {
         put_json(text, stretch)

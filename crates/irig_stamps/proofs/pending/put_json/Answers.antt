@@ -1,4 +1,4 @@
-use Rattle.irig_stamps.specs.HoleTexts.{json_end, json_span}
+use Rattle.irig_stamps.specs.HoleRows.{json_end, json_span}
 use Rattle.irig_stamps.proofs.HoleSteps.{appended}
 use Rattle.irig_stamps.proofs.pending.put_json.Goals as goal
 

@@ -1,8 +1,8 @@
 use Rattle.std.proofs.Common.{◌≡◌, ◌++◌, ◌∷◌, Bool, false, ℕ, List, Option, sym, ap, ◌∙◌, subst}
 use Rattle.std.specs.Prelude.{if◌then◌else◌}
 use Rattle.irig_stamps.specs.declared.stretch.Stretch.{Stretch}
-use Rattle.irig_stamps.specs.Holes.{stretch, touches, with_more}
-use Rattle.irig_stamps.specs.HoleTexts.{IsShown, row_of}
+use Rattle.irig_stamps.specs.Joined.{stretch, touches, with_more}
+use Rattle.irig_stamps.specs.{HoleRows.hole_row, HoleTexts.IsShown}
 use Rattle.irig_stamps.proofs.pending.Pending.add.Goals as goal
 
 pub returns-clause-shown : goal.returns-clause-shown
@@ -17,5 +17,5 @@ returns-clause-shown c = λ stretches shown.
       last ∷ there.0,
       ap (λ (l : List Stretch). with_more l next) there.1
           ∙ ap (λ (b : Bool). if b then stretch last.begin next.end last.why ∷ there.0 else next ∷ last ∷ there.0) none,
-      c.in_ok-put_row.ensures ∙ ap (λ (t : List ℕ). t ++ row_of json comma last) there.2,
+      c.in_ok-put_row.ensures ∙ ap (λ (t : List ℕ). t ++ hole_row json comma last) there.2,
     )

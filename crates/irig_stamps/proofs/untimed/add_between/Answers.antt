@@ -2,7 +2,7 @@ use Rattle.std.proofs.Common.{◌<◌, arith}
 use Rattle.irig_times.specs.Untimed.{HasNoTime}
 use Rattle.irig_times.proofs.Reasons.{one_why}
 use Rattle.irig_stamps.proofs.{HoleMoments.all-timed, HoleMoments.all-untimed, HoleSteps.both-ok, HoleSteps.up-to-more, HoleSteps.up-to-timed}
-use Rattle.irig_stamps.proofs.hole_list.add_between.Goals as goal
+use Rattle.irig_stamps.proofs.untimed.add_between.Goals as goal
 
 pub returns-in-None-clause-grown : goal.returns-in-None-clause-grown
 returns-in-None-clause-grown c =

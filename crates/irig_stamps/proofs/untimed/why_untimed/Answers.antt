@@ -3,7 +3,7 @@ use Rattle.std.proofs.lemmas.Option.{none-some}
 use Rattle.irig_track.specs.{Splices.risen_by, Track.TrackView}
 use Rattle.irig_times.specs.{declared.part.Part.Part, Parts.AreParts, Parts.TellsByParts, Support.believed, Untimed.IsKnown, Untimed.IsWhy}
 use Rattle.irig_times.proofs.KeptTimes.{timed_parts_are}
-use Rattle.irig_stamps.proofs.hole_list.why_untimed.Goals as goal
+use Rattle.irig_stamps.proofs.untimed.why_untimed.Goals as goal
 
 pub time_by-requires-clause-parts : goal.time_by-requires-clause-parts
 time_by-requires-clause-parts c =

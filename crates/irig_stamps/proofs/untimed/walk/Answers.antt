@@ -5,7 +5,7 @@ use Rattle.irig_track.proofs.Searches.{risen_by-le}
 use Rattle.irig_times.specs.Untimed.{HasNoTime}
 use Rattle.irig_stamps.specs.{HoleTexts.IsUpTo, Holes.IsBetween}
 use Rattle.irig_stamps.proofs.HoleMoments.{begin-next, between-next, order-next}
-use Rattle.irig_stamps.proofs.hole_list.walk.Goals as goal
+use Rattle.irig_stamps.proofs.untimed.walk.Goals as goal
 
 pub add_between-requires-clause-between : goal.add_between-requires-clause-between
 add_between-requires-clause-between c =
@@ -13,7 +13,8 @@ add_between-requires-clause-between c =
     let t = c.args.pulses.now.track in
     let p = c.pulse-end.result in
     let now : c.pulse-end.new.self.track ≡ t = ap (λ (v : LensView). v.track) c.pulse-end.ensures.counted ∙ l.invariant.same in
-    let is : slice_get t.pulses l.place ≡ Some p = subst (λ (v : TrackView). slice_get v.pulses l.place ≡ Some p) l.invariant.same c.pulse-end.ensures.value in (
+    let is : slice_get t.pulses l.place ≡ Some p =
+    subst (λ (v : TrackView). slice_get v.pulses l.place ≡ Some p) l.invariant.same c.pulse-end.ensures.value in (
       l.place,
       subst (λ (v : TrackView). IsBetween v.pulses l.place l.begin p.rise) (sym now)
           (between-next (2 ^ 26) t.micros t.pulses c.len-place-end.ensures.track l.place l.begin p is l.invariant.begun),
@@ -46,8 +47,8 @@ loop-place-preserved c =
           c.add_between.new.pending) now (c.in_ok-add_between.ensures.grown before);
     }
 
-pub add_between-requires-2-clause-between : goal.add_between-requires-2-clause-between
-add_between-requires-2-clause-between c =
+pub add_last-requires-clause-between : goal.add_last-requires-clause-between
+add_last-requires-clause-between c =
     let l = c.loop-place in
     let t = c.args.pulses.now.track in (
       l.place,

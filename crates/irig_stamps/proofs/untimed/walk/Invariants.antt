@@ -1,7 +1,7 @@
 use Rattle.std.proofs.Common.{◌≡◌, ◌≤◌}
 use Rattle.irig_times.specs.Untimed.{HasNoTime}
 use Rattle.irig_stamps.specs.{HoleTexts.IsUpTo, Holes.HasBegun}
-use Rattle.irig_stamps.proofs.hole_list.walk.Given as goal
+use Rattle.irig_stamps.proofs.untimed.walk.Given as goal
 
 abbrev pub invariant-loop-place : goal.invariant-loop-place
 invariant-loop-place l = record {
