@@ -2,7 +2,7 @@
 use Rattle.std.proofs.Common.{ℕ, List, Option, Some, None}
 use Rattle.std.specs.Prelude.{Ok}
 use Rattle.irig_stamps.specs.{Aligned.Aligns, declared.outcome.Outcome.Outcome}
-use Rattle.irig_time.specs.declared.ending.Ending.TheVariants.{Usage, Unread, Aligned, Listed, Timeless, Doubted, Broken}
+use Rattle.irig_time.specs.declared.ending.Ending.TheVariants.{Usage, Unread, Aligned, Listed, Holed, Timeless, Doubted, Broken}
 use Rattle.irig_time.specs.declared.ending.Ending.TheVariants.{OverLines, OverTrack, Unknown, Unwritten}
 use Rattle.irig_time.specs.{Done.EndsAs, Runs.AlignsAs}
 use Rattle.irig_time.specs.{declared.chosen.Chosen.Chosen, declared.ending.Ending.Ending}
@@ -18,6 +18,7 @@ module _ (chosen : Chosen) (micros : ℕ) (edges : List ℕ) (lines left from to
   ends-aligned (Usage fault) e = absurd e
   ends-aligned (Unread path fault) e = absurd e
   ends-aligned Listed e = absurd e
+  ends-aligned (Holed found) e = absurd e
   ends-aligned (Broken fault) e = absurd e
   ends-aligned OverTrack e = absurd e
   ends-aligned OverLines e = absurd e

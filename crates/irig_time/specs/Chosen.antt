@@ -1,25 +1,18 @@
 -- What a command line asks for. This project's own.
-use Rattle.std.specs.Prelude.{◌≡◌, ◌&&◌, ◌||◌, ◌^◌, ◌<◌, ◌≤◌, Bool, true, false, nat_lt, not}
-use Rattle.std.specs.Prelude.{Some, IfSome, codes, is_some}
-use Rattle.std.specs.Str.{bytes_eq}
+use Rattle.std.specs.Prelude.{◌≡◌, ◌&&◌, ◌^◌, ◌<◌, ◌≤◌, Bool, true, false, nat_lt, not, Some}
+use Rattle.std.specs.Prelude.{IfSome, codes, is_some}
 use Rattle.irig_codes.specs.Format.{FormatView}
 use Rattle.irig_stamps.specs.declared.settings.Form.TheVariants.{Ordinal, Calendar, Seconds}
 use Rattle.irig_stamps.specs.{declared.picos.Picos.Picos, declared.settings.Form.Form}
 use Rattle.irig_stamps.specs.declared.settings.Settings.{Settings}
 use Rattle.irig_time.specs.Samples.{HasColumns, HasDates, HasName}
 use Rattle.irig_time.specs.Values.{whole_between}
+use Rattle.irig_time.specs.Wants.{has_line_option, is_json_alone, is_not_of_holes, task_of}
+use Rattle.irig_time.specs.Wants.{wants_alone, wants_quiet, wants_table, wants_why}
 use Rattle.irig_words.specs.Formats.{IsFormat, given, text_or}
 use Rattle.irig_words.specs.Windows.{IsWindow}
 use Rattle.irig_time.specs.declared.samples.Column.{Column}
 use Rattle.irig_time.specs.{declared.raw_values.RawValues.RawValues, declared.chosen.Chosen.Chosen}
-
--- whether each fine frame is believed
-abbrev pub wants_alone : RawValues → Bool
-wants_alone a = bytes_eq (text_or a.alone (codes "false")) (codes "true")
-
--- whether a word says why a line has no time
-abbrev pub wants_why : RawValues → Bool
-wants_why a = bytes_eq (text_or a.why (codes "false")) (codes "true")
 
 -- the recorder's time at the start of the track
 abbrev pub start_of : Settings → Picos
@@ -53,19 +46,6 @@ is_calendar Seconds = false
 abbrev pub lacks_year : FormatView → Settings → Bool
 lacks_year f s = is_calendar s.form && (not (is_some s.year) && nat_lt f.expression 4)
 
--- whether the table is asked for
-abbrev pub wants_table : RawValues → Bool
-wants_table a = bytes_eq (text_or a.table (codes "false")) (codes "true")
-
--- whether an option is given that says how lines are read, or printed
-abbrev pub has_line_option : RawValues → Bool
-has_line_option a = is_some a.unit || (is_some a.offset || (is_some a.column
-    || (is_some a.header || (is_some a.name || wants_why a))))
-
--- whether what was done with the lines is not said
-abbrev pub wants_quiet : RawValues → Bool
-wants_quiet a = bytes_eq (text_or a.quiet (codes "false")) (codes "true")
-
 -- the values ask for this
 pub record IsChosen (a : RawValues) (c : Chosen) : Type 0 where
   pub track : c.track ≡ a.track
@@ -75,6 +55,8 @@ pub record IsChosen (a : RawValues) (c : Chosen) : Type 0 where
   pub out : c.out ≡ a.out
   pub settings : HasSettings a c.settings
   pub year : lacks_year c.format c.settings ≡ false
-  pub table : c.table ≡ wants_table a
+  pub task : c.task ≡ task_of a
   pub quiet : c.quiet ≡ wants_quiet a
   pub alone : (wants_table a && has_line_option a) ≡ false
+  pub holes : is_not_of_holes a ≡ false
+  pub json : is_json_alone a ≡ false

@@ -1,6 +1,7 @@
 -- How a run over all lines ended, and its status. This project's own.
 use Rattle.std.specs.Prelude.{◌≡◌, ◌==◌, ◌&&◌, ◌<◌, ℕ, Bool, true, false, not, Some, is_none, if◌then◌else◌}
 use Rattle.irig_stamps.specs.declared.outcome.Outcome.{Outcome}
+use Rattle.irig_stamps.specs.declared.outcome.Standing.{Standing}
 use Rattle.irig_stamps.specs.{declared.tally.Tally.Tally}
 use Rattle.irig_time.specs.declared.ending.Ending.TheVariants.{Aligned, Timeless, Doubted}
 use Rattle.irig_time.specs.{declared.chosen.Chosen.Chosen, declared.done.Done.Done, declared.ending.Ending.Ending}
@@ -26,6 +27,10 @@ EndsAs chosen micros outcome _ = ⊥
 -- each line has a number, and as many columns as the header, which names no other unit
 abbrev pub is_whole : Tally → Bool
 is_whole tally = (tally.unnumbered == 0) && (is_none tally.uneven && not tally.other_unit)
+
+-- the status of a list of the stretches without a time, if it is known which frames have one
+abbrev pub holes_status : Standing → ℕ
+holes_status standing = if (standing.doubted == 0) && standing.timed then 0 else 1
 
 -- the status of a run over all lines whose track has nothing wrong
 abbrev pub lines_status : Tally → ℕ

@@ -2,9 +2,10 @@
 use Rattle.std.specs.Prelude.{◌≡◌, ◌&&◌, ℕ, true, false, Option, Some, None, codes, is_some}
 use Rattle.irig_codes.specs.Format.{FormatView}
 use Rattle.irig_stamps.specs.declared.settings.Settings.{Settings}
-use Rattle.irig_time.specs.Chosen.{HasSettings, has_line_option, lacks_year, wants_table}
+use Rattle.irig_time.specs.Chosen.{HasSettings, lacks_year}
 use Rattle.irig_time.specs.Units.{places_named}
 use Rattle.irig_time.specs.Values.{comma_named, form_named, offset_named}
+use Rattle.irig_time.specs.Wants.{has_line_option, is_json_alone, is_not_of_holes, wants_table}
 use Rattle.irig_time.specs.{Names.is_name, Samples.IsComma, Samples.names_column}
 use Rattle.irig_time.specs.Values.{whole_between}
 use Rattle.irig_words.specs.Formats.{HasFormatFault, IsFormat, given, text_or}
@@ -37,3 +38,5 @@ HasFault a fault.NoYear =
     (f : FormatView) × (s : Settings) × IsFormat (given a.format) (given a.expression) f
     × HasSettings a s × (lacks_year f s ≡ true)
 HasFault a fault.Table = (wants_table a && has_line_option a) ≡ true
+HasFault a fault.Holes = is_not_of_holes a ≡ true
+HasFault a fault.Json = is_json_alone a ≡ true

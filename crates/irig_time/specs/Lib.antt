@@ -3,6 +3,7 @@ pub mod Units
 pub mod Values
 pub mod Names
 pub mod Samples
+pub mod Wants
 pub mod Chosen
 pub mod Faults
 pub mod Settings

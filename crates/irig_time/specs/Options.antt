@@ -27,16 +27,20 @@ output_command =
     with_rule (with_rule (with_rule (with_rule column_command (option (codes "header") None))
     (option (codes "name") None)) (option (codes "year") None)) (option (codes "form") None)
 
--- and which frames are taken, and what is printed of them
+-- and which frames are taken, and what is printed of lines without a time
 abbrev pub flags_command : App
-flags_command =
-    with_rule (with_rule (with_rule output_command (flag (codes "alone"))) (flag (codes "why")))
-    (flag (codes "table"))
+flags_command = with_rule (with_rule output_command (flag (codes "alone"))) (flag (codes "why"))
+
+-- and what of the track is listed
+abbrev pub list_command : App
+list_command =
+    with_rule (with_rule (with_rule flags_command (flag (codes "table"))) (flag (codes "holes")))
+    (flag (codes "json"))
 
 -- and where all goes, and whether what was done is said at the end
 abbrev pub quiet_command : App
 quiet_command =
-    with_rule (with_rule flags_command (option (codes "out") None)) (flag (codes "quiet"))
+    with_rule (with_rule list_command (option (codes "out") None)) (flag (codes "quiet"))
 
 -- the command
 abbrev pub the_command : App
@@ -56,6 +60,9 @@ IsOutputCommand app = app ≡ output_command
 
 abbrev pub IsFlagsCommand : App → Type 0
 IsFlagsCommand app = app ≡ flags_command
+
+abbrev pub IsListCommand : App → Type 0
+IsListCommand app = app ≡ list_command
 
 abbrev pub IsQuietCommand : App → Type 0
 IsQuietCommand app = app ≡ quiet_command

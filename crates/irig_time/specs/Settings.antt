@@ -28,6 +28,8 @@ pub record AreValues (f : Found) (a : RawValues) : Type 0 where
   pub alone : first_value f (codes "alone") ≡ option_map (λ w. w.now) a.alone
   pub why : first_value f (codes "why") ≡ option_map (λ w. w.now) a.why
   pub table : first_value f (codes "table") ≡ option_map (λ w. w.now) a.table
+  pub holes : first_value f (codes "holes") ≡ option_map (λ w. w.now) a.holes
+  pub json : first_value f (codes "json") ≡ option_map (λ w. w.now) a.json
   pub quiet : first_value f (codes "quiet") ≡ option_map (λ w. w.now) a.quiet
 
 -- what the words ask for, or why they ask for nothing

@@ -3,13 +3,14 @@ use Rattle.std.specs.Prelude.{ℕ, Bool, true, false, List, Option}
 use Rattle.clap.specs.Words.{Text}
 use Rattle.irig_words.specs.Telling.{EndsWith, Explains, Helps}
 use Rattle.irig_time.specs.declared.ending.Ending.TheVariants.{Usage, Unread, Aligned}
-use Rattle.irig_time.specs.declared.ending.Ending.TheVariants.{Listed, Timeless, Doubted, Broken}
+use Rattle.irig_time.specs.declared.ending.Ending.TheVariants.{Listed, Holed, Timeless, Doubted, Broken}
 use Rattle.irig_time.specs.declared.ending.Ending.TheVariants.{OverLines, OverTrack, Unknown}
 use Rattle.irig_time.specs.declared.ending.Ending.TheVariants.{Unwritten}
 use Rattle.irig_stamps.specs.declared.fault.RunFault.{RunFault}
 use Rattle.irig_stamps.specs.declared.fault.RunFault.TheVariants.{PrintFailed}
 use Rattle.irig_stamps.specs.declared.fault.PrintFault.TheVariants.{Closed}
-use Rattle.irig_time.specs.{Done.lines_status, Ending.EndsBy, Given.Files, Given.IsUntouched}
+use Rattle.irig_time.specs.{Done.holes_status, Done.lines_status, Ending.EndsBy, Given.Files}
+use Rattle.irig_time.specs.{Given.IsUntouched}
 use Rattle.irig_time.specs.Help.{asks_version, help_text, version_text}
 use Rattle.irig_time.specs.{declared.ending.Ending.Ending}
 
@@ -20,12 +21,13 @@ broken_status _ = 4
 
 -- the status for how the program ended, and what is printed on the output of help: that of
 -- `lines_status` if all lines were printed and nothing is wrong with the track, 0 if the table was,
--- 1 if no frame has a time or some frames are not believed, 2 for another command line, 3 if the
--- track was not read, that of `broken_status` if the run was broken off; help ends with 0, or with
--- 4 if it was not printed
+-- that of `holes_status` if the stretches without a time were, 1 if no frame has a time or some
+-- frames are not believed, 2 for another command line, 3 if the track was not read, that of
+-- `broken_status` if the run was broken off; help ends with 0, or with 4 if it was not printed
 abbrev pub Reports : Ending → Option (List ℕ) → Option (List ℕ) → ℕ → Type 0
 Reports (Aligned it) old new status = EndsWith (lines_status it.tally) old new status
 Reports Listed old new status = EndsWith 0 old new status
+Reports (Holed it) old new status = EndsWith (holes_status it.holes.standing) old new status
 Reports (Timeless path it) old new status = EndsWith 1 old new status
 Reports (Doubted path count it) old new status = EndsWith 1 old new status
 Reports (Usage fault) old new status = Explains help_text 4 fault old new status

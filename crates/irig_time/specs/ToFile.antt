@@ -6,8 +6,8 @@ use Rattle.irig_files.specs.declared.written.Written.{Written}
 use Rattle.irig_text.specs.declared.shelf.ShelfFault.{ShelfFault}
 use Rattle.irig_stamps.specs.declared.fault.RunFault.{RunFault}
 use Rattle.irig_stamps.specs.declared.fault.RunFault.TheVariants.{OutOfMemory, PrintFailed}
-use Rattle.irig_time.specs.declared.ending.Ending.TheVariants.{Aligned, Broken, Doubted, Listed}
-use Rattle.irig_time.specs.declared.ending.Ending.TheVariants.{OverLines, OverTrack, Timeless}
+use Rattle.irig_time.specs.declared.ending.Ending.TheVariants.{Aligned, Broken, Doubted, Holed}
+use Rattle.irig_time.specs.declared.ending.Ending.TheVariants.{Listed, OverLines, OverTrack, Timeless}
 use Rattle.irig_time.specs.declared.ending.Ending.TheVariants.{Unknown, Unwritten}
 use Rattle.irig_time.specs.{Given.Files, Runs.Obeys}
 use Rattle.irig_time.specs.{declared.chosen.Chosen.Chosen, declared.ending.Ending.Ending}
@@ -20,6 +20,7 @@ lines_path = codes "/dev/stdin"
 abbrev pub has_all : Ending → Bool
 has_all (Aligned it) = true
 has_all Listed = true
+has_all (Holed it) = true
 has_all (Timeless path it) = true
 has_all (Doubted path count it) = true
 has_all _ = false

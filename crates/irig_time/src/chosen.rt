@@ -1,6 +1,7 @@
 //! What a command line asks for: what the values of its options mean (`Chosen`), or which value is
 //! wrong (`OptionFault`).
 
+use crate::task::Task;
 use irig_codes::Format;
 use irig_stamps::Settings;
 use irig_vcd::Window;
@@ -22,8 +23,8 @@ pub struct Chosen<'a> {
     pub out: Option<&'a str>,
     /// How lines are read and stamped.
     pub settings: Settings<'a>,
-    /// Whether the table of the frames is asked for, and no lines are read.
-    pub table: bool,
+    /// What is done with the track.
+    pub task: Task,
     /// Whether what was done with the lines is not said.
     pub quiet: bool,
 }
@@ -62,4 +63,9 @@ pub enum OptionFault {
     #[error("--table: reads no lines, so without --unit, --offset, --column, --header, --name and \
          --why")]
     Table,
+    #[error("--holes: reads no lines, so without --table, --unit, --offset, --column, --header, \
+         --name and --why")]
+    Holes,
+    #[error("--json: is the form of --holes, so give --holes")]
+    Json,
 }

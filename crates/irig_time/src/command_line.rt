@@ -1,11 +1,11 @@
 //! The command line, read by `clap`.
 
-ghost use Rattle.std.specs.Prelude.{◌≡◌, IfErr, IfOk, map, string_bytes};
-ghost use Rattle.clap.specs.Words.{HasMatchesOf, app_of, found_of};
+ghost use Rattle.std.specs.Prelude.{◌≡◌, IfErr, IfOk, Some, codes, map, string_bytes};
+ghost use Rattle.clap.specs.Words.{HasMatchesOf, app_of, first_value, found_of};
 ghost use Rattle.irig_time.specs.Chosen.{IsSound};
 ghost use Rattle.irig_time.specs.Options.{IsColumnCommand, IsCommand, IsFlagsCommand};
-ghost use Rattle.irig_time.specs.Options.{IsFormatCommand, IsOutputCommand, IsPartCommand};
-ghost use Rattle.irig_time.specs.Options.{IsQuietCommand, the_command};
+ghost use Rattle.irig_time.specs.Options.{IsFormatCommand, IsListCommand, IsOutputCommand};
+ghost use Rattle.irig_time.specs.Options.{IsPartCommand, IsQuietCommand, the_command};
 ghost use Rattle.irig_time.specs.Settings.{AreValues, Reads};
 ghost use Rattle.irig_words.specs.Errors.{MayRefuse, WantsMemory};
 ghost use Rattle.irig_words.specs.Usage.{Values};
@@ -52,7 +52,14 @@ fn values_of<'a>(matches: &ArgMatches<'a>) -> Result<RawValues<'a>, Error>
         // `clap` accepts no line without the track, so this does not come.
         return Err(AllocError.into());
     };
-    Ok(RawValues {
+    Ok(raw_of(track, matches))
+}
+
+fn raw_of<'a>(track: &'a str, matches: &ArgMatches<'a>) -> RawValues<'a>
+    requires { first_value (found_of matches.now) (codes "TRACK") ≡ Some track.now }
+    ensures { AreValues (found_of matches.now) result }
+{
+    RawValues {
         track,
         wire: matches.get_str("wire"),
         from: matches.get_str("from"),
@@ -71,8 +78,10 @@ fn values_of<'a>(matches: &ArgMatches<'a>) -> Result<RawValues<'a>, Error>
         alone: matches.get_str("alone"),
         why: matches.get_str("why"),
         table: matches.get_str("table"),
+        holes: matches.get_str("holes"),
+        json: matches.get_str("json"),
         quiet: matches.get_str("quiet"),
-    })
+    }
 }
 
 fn parse_words<'a>(alloc: Global, words: &'a [String]) -> Result<ArgMatches<'a>, Error>
@@ -95,7 +104,7 @@ pub fn command<'a>(alloc: Global) -> Result<Command<'a>, AllocError>
 fn quiet_command<'a>(alloc: Global) -> Result<Command<'a>, AllocError>
     ensures { IfOk result (λ c. IsQuietCommand (app_of c)) }
 {
-    flags_command(alloc)?
+    list_command(alloc)?
         .arg(option_arg(
             alloc,
             "out",
@@ -103,6 +112,23 @@ fn quiet_command<'a>(alloc: Global) -> Result<Command<'a>, AllocError>
             "takes all at the end, from memory: standard output",
         ))?
         .arg(flag_arg(alloc, "quiet", "no line at the end says what was done"))
+}
+
+fn list_command<'a>(alloc: Global) -> Result<Command<'a>, AllocError>
+    ensures { IfOk result (λ c. IsListCommand (app_of c)) }
+{
+    flags_command(alloc)?
+        .arg(flag_arg(
+            alloc,
+            "table",
+            "print a table of the frames; no lines are read",
+        ))?
+        .arg(flag_arg(
+            alloc,
+            "holes",
+            "print each stretch without a time; no lines are read",
+        ))?
+        .arg(flag_arg(alloc, "json", "of --holes: an object of JSON for each"))
 }
 
 fn flags_command<'a>(alloc: Global) -> Result<Command<'a>, AllocError>
@@ -118,11 +144,6 @@ fn flags_command<'a>(alloc: Global) -> Result<Command<'a>, AllocError>
             alloc,
             "why",
             "a word in place of - says why a line has no time",
-        ))?
-        .arg(flag_arg(
-            alloc,
-            "table",
-            "print a table of the frames; no lines are read",
         ))
 }
 

@@ -1,12 +1,11 @@
 //! What was done with the lines, as the program says it at the end.
 
+use crate::seconds::Seconds;
 use irig_stamps::{Span, Tally};
 use std::fmt;
 use std::fmt::{Display, Formatter, Write};
 
 const PICOS: u128 = 1_000_000;
-
-const MICROS: u128 = 1_000_000;
 
 /// What was done with the lines of a run.
 #[derive(Clone, Copy)]
@@ -59,20 +58,4 @@ impl Display for Done {
 /// How long a span is, in microseconds, rounded down.
 fn length(span: Span) -> u128 {
     span.last.saturating_sub(span.first) / PICOS
-}
-
-/// Some microseconds, which are written as seconds: with six decimals, or with none if these are
-/// zeros.
-#[derive(Drop)]
-struct Seconds(u128);
-
-impl Display for Seconds {
-    fn fmt<W: Write>(&self, f: &mut Formatter<W>) -> fmt::Result {
-        let whole = self.0 / MICROS;
-        let part = self.0 % MICROS;
-        if part == 0 {
-            return write!(f, "{whole}");
-        }
-        write!(f, "{whole}.{part:06}")
-    }
 }

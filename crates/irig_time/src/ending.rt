@@ -2,6 +2,7 @@
 
 use crate::chosen::OptionFault;
 use crate::done::Done;
+use crate::found::Found;
 use irig_files::TrackFault;
 use irig_stamps::RunFault;
 use irig_words::UsageFault;
@@ -17,6 +18,8 @@ pub enum Ending<'a> {
     Aligned(Done),
     /// The table was printed.
     Listed,
+    /// The stretches without a time were printed.
+    Holed(Found<'a>),
     /// All lines were printed, or the table (`None`), but no frame of the track at this path is
     /// fine.
     Timeless(&'a str, Option<Done>),

@@ -1,19 +1,22 @@
-//! Lines are aligned with the track of a dump, of up to 2^26 pulses, or its frames are listed.
+//! Lines are aligned with the track of a dump, of up to 2^26 pulses, or its frames are listed, or
+//! its stretches without a time.
 
 ghost use Rattle.irig_time.specs.{Done.EndsAs};
 ghost use Rattle.irig_time.specs.Chosen.{IsSound};
-ghost use Rattle.irig_time.specs.Runs.{AlignsAs, ListsAs, Obeys, RunsAs};
+ghost use Rattle.irig_time.specs.Runs.{AlignsAs, HolesAs, ListsAs, Obeys, RunsAs};
 
 use crate::chosen::Chosen;
 use crate::done::Done;
 use crate::ending::Ending;
+use crate::found::Found;
+use crate::task::Task;
 use irig_files::{Disk, read_long_track};
 use irig_recording::LongRecording;
-use irig_stamps::{Outcome, align, list};
+use irig_stamps::{Outcome, align, list, list_holes};
 use std::alloc::Global;
 use std::io::{Read, Write};
 
-/// Aligns lines with the track that is chosen, or prints its table.
+/// Aligns lines with the track that is chosen, or prints a list.
 pub fn run_file<'a, D: Disk, R: Read, W: Write>(
     alloc: Global,
     chosen: &Chosen<'a>,
@@ -31,8 +34,8 @@ pub fn run_file<'a, D: Disk, R: Read, W: Write>(
     }
 }
 
-/// Aligns lines with a recording, or prints its table if that is asked for: a row for each frame
-/// that has a time.
+/// Aligns lines with a recording, or prints a list if that is asked for: a row for each frame that
+/// has a time, or for each stretch without one.
 fn run_track<'a, R: Read, W: Write>(
     alloc: Global,
     chosen: &Chosen<'a>,
@@ -41,14 +44,37 @@ fn run_track<'a, R: Read, W: Write>(
     out: &mut W,
 ) -> Ending<'a>
     requires sound { IsSound chosen.now.settings }
-    ensures { RunsAs chosen.now.table chosen.now recording.micros recording.edges
+    ensures { RunsAs chosen.now.task chosen.now recording.micros recording.edges
         (R.remaining lines.old) (R.remaining lines.new) (W.contents out.old) (W.contents out.new)
         result }
 {
-    if chosen.table {
-        list_track(alloc, chosen, recording, out)
-    } else {
-        align_track(alloc, chosen, recording, lines, out)
+    match chosen.task {
+        Task::Lines => align_track(alloc, chosen, recording, lines, out),
+        Task::Table => list_track(alloc, chosen, recording, out),
+        Task::Holes(json) => list_untimed(alloc, chosen, recording, out, json),
+    }
+}
+
+fn list_untimed<'a, W: Write>(
+    alloc: Global,
+    chosen: &Chosen<'a>,
+    recording: LongRecording,
+    out: &mut W,
+    json: bool,
+) -> Ending<'a>
+    requires sound { IsSound chosen.now.settings }
+    ensures { HolesAs json chosen.now recording.micros recording.edges (W.contents out.old)
+        (W.contents out.new) result }
+{
+    let length = recording.length();
+    match list_holes(alloc, recording, out, chosen.format, &chosen.settings, json) {
+        Ok(holes) => Ending::Holed(Found {
+            path: chosen.track,
+            holes,
+            micros: length,
+            quiet: chosen.quiet,
+        }),
+        Err(fault) => Ending::Broken(fault),
     }
 }
 

@@ -23,10 +23,8 @@ pub fn program<'a>() -> Program<'a>
 fn help_text<'a>() -> &'a str
     ensures { result.now ≡ help_text }
 {
-    "Usage: irig_time [OPTIONS] <TRACK>\n\n\
-     Arguments:\n  \
-     <TRACK>  the dump; lines come on standard input\n\n\
-     Options:\n      \
+    "Usage: irig_time [OPTIONS] <TRACK>\n\nArguments:\n  \
+     <TRACK>  the dump; lines come on standard input\n\nOptions:\n      \
      --wire <NAME>          the wire of the dump\n      \
      --from <TIME>          in microseconds, is the new 0: 0\n      \
      --to <TIME>            in microseconds, ends the part that is read\n      \
@@ -43,6 +41,8 @@ fn help_text<'a>() -> &'a str
      --alone                take each frame that reads well, supported or not\n      \
      --why                  a word in place of - says why a line has no time\n      \
      --table                print a table of the frames; no lines are read\n      \
+     --holes                print each stretch without a time; no lines are read\n      \
+     --json                 of --holes: an object of JSON for each\n      \
      --out <FILE>           takes all at the end, from memory: standard output\n      \
      --quiet                no line at the end says what was done\n      \
      --version              says which tool prints the version\n  \

@@ -1,14 +1,17 @@
 //! What the values of a command line mean.
 
 ghost use Rattle.std.specs.Prelude.{◌≡◌, ◌&&◌, IfErr, IfOk, false};
-ghost use Rattle.irig_time.specs.Chosen.{HasSettings, IsChosen, IsSound, has_line_option};
-ghost use Rattle.irig_time.specs.Chosen.{lacks_year, wants_alone, wants_quiet, wants_table, wants_why};
+ghost use Rattle.irig_time.specs.Chosen.{HasSettings, IsChosen, IsSound, lacks_year};
+ghost use Rattle.irig_time.specs.Wants.{has_line_option, is_json_alone, is_not_of_holes, task};
+ghost use Rattle.irig_time.specs.Wants.{task_of, wants_alone, wants_holes, wants_json, wants_quiet};
+ghost use Rattle.irig_time.specs.Wants.{wants_table, wants_why};
 ghost use Rattle.irig_time.specs.Faults.{HasFault};
 
 use crate::chosen::{Chosen, OptionFault};
 use crate::naming::name_of;
 use crate::raw_values::RawValues;
 use crate::samples::{columns_of, dates_of, header_of};
+use crate::task::Task;
 use crate::values::is_same;
 use irig_codes::Format;
 use irig_stamps::{Form, Settings};
@@ -32,7 +35,7 @@ pub fn chosen_of<'a>(raw: &RawValues<'a>) -> Result<Chosen<'a>, OptionFault>
     if lacks_year(format, &settings) {
         return Err(OptionFault::NoYear);
     }
-    let table = table_of(raw)?;
+    let task = task_of(raw)?;
     Ok(Chosen {
         track: raw.track,
         wire: raw.wire,
@@ -40,27 +43,71 @@ pub fn chosen_of<'a>(raw: &RawValues<'a>) -> Result<Chosen<'a>, OptionFault>
         format,
         out: raw.out,
         settings,
-        table,
+        task,
         quiet: wants_quiet(raw),
     })
 }
 
-fn table_of(raw: &RawValues<'_>) -> Result<bool, OptionFault>
-    ensures table { IfOk result (λ table. table ≡ wants_table raw.now) }
+fn task_of(raw: &RawValues<'_>) -> Result<Task, OptionFault>
+    ensures task { IfOk result (λ t. t ≡ task_of raw.now) }
     ensures alone { IfOk result (λ _. (wants_table raw.now && has_line_option raw.now) ≡ false) }
+    ensures holes { IfOk result (λ _. is_not_of_holes raw.now ≡ false) }
+    ensures json { IfOk result (λ _. is_json_alone raw.now ≡ false) }
     ensures fault { IfErr result (HasFault raw.now) }
 {
     let table = wants_table(raw);
     if table && has_line_option(raw) {
         return Err(OptionFault::Table);
     }
-    Ok(table)
+    if is_not_of_holes(raw) {
+        return Err(OptionFault::Holes);
+    }
+    if is_json_alone(raw) {
+        return Err(OptionFault::Json);
+    }
+    Ok(task(table, wants_holes(raw), wants_json(raw)))
+}
+
+fn task(table: bool, holes: bool, json: bool) -> Task
+    ensures { result ≡ task table holes json }
+{
+    if table {
+        Task::Table
+    } else if holes {
+        Task::Holes(json)
+    } else {
+        Task::Lines
+    }
+}
+
+fn is_not_of_holes(raw: &RawValues<'_>) -> bool
+    ensures { result ≡ is_not_of_holes raw.now }
+{
+    wants_holes(raw) && (wants_table(raw) || has_line_option(raw))
+}
+
+fn is_json_alone(raw: &RawValues<'_>) -> bool
+    ensures { result ≡ is_json_alone raw.now }
+{
+    wants_json(raw) && !wants_holes(raw)
 }
 
 fn wants_table(raw: &RawValues<'_>) -> bool
     ensures { result ≡ wants_table raw.now }
 {
     is_same(text_or(raw.table, "false"), b"true")
+}
+
+fn wants_holes(raw: &RawValues<'_>) -> bool
+    ensures { result ≡ wants_holes raw.now }
+{
+    is_same(text_or(raw.holes, "false"), b"true")
+}
+
+fn wants_json(raw: &RawValues<'_>) -> bool
+    ensures { result ≡ wants_json raw.now }
+{
+    is_same(text_or(raw.json, "false"), b"true")
 }
 
 fn wants_quiet(raw: &RawValues<'_>) -> bool

@@ -21,5 +21,7 @@ pub struct RawValues<'a> {
     pub alone: Option<&'a str>,
     pub why: Option<&'a str>,
     pub table: Option<&'a str>,
+    pub holes: Option<&'a str>,
+    pub json: Option<&'a str>,
     pub quiet: Option<&'a str>,
 }

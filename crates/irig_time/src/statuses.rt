@@ -4,15 +4,16 @@ ghost use Rattle.std.specs.Prelude.{◌≡◌};
 ghost use Rattle.std.specs.Process.{exit_status};
 ghost use Rattle.irig_words.specs.Telling.{Helps};
 ghost use Rattle.irig_time.specs.Help.{version_text};
-ghost use Rattle.irig_time.specs.{Done.is_whole, Done.lines_status, Statuses.Reports};
-ghost use Rattle.irig_time.specs.{Statuses.broken_status};
+ghost use Rattle.irig_time.specs.Done.{holes_status, is_whole, lines_status};
+ghost use Rattle.irig_time.specs.Statuses.{Reports, broken_status};
 
 use crate::done::Done;
 use crate::ending::Ending;
+use crate::found::Found;
 use crate::help::{program, version_text};
 use irig_files::TrackFault;
 use irig_print::put_all;
-use irig_stamps::{PrintFault, RunFault, Tally};
+use irig_stamps::{PrintFault, RunFault, Standing, Tally};
 use irig_vcd::VcdFault;
 use std::io::Write;
 use std::process::ExitCode;
@@ -30,6 +31,7 @@ pub fn report<R: Eprint, H: Write>(rt: &R, ending: &Ending<'_>, help: &mut H) ->
         Ending::Unread(path, fault) => tell_unread(rt, path, fault),
         Ending::Aligned(done) => tell_aligned(rt, done),
         Ending::Listed => ExitCode::SUCCESS,
+        Ending::Holed(found) => tell_holed(rt, found),
         Ending::Timeless(path, done) => tell_timeless(rt, path, done),
         Ending::Doubted(path, count, done) => tell_doubted(rt, path, *count, done),
         Ending::Broken(fault) => tell_broken(rt, fault),
@@ -97,6 +99,29 @@ fn is_whole(tally: &Tally) -> bool
     ensures { result ≡ is_whole tally.now }
 {
     tally.unnumbered == 0 && tally.uneven.is_none() && !tally.other_unit
+}
+
+/// Says how much has no time, and returns the status.
+fn tell_holed<R: Eprint>(rt: &R, found: &Found<'_>) -> ExitCode
+    ensures { exit_status result ≡ holes_status found.now.holes.standing }
+{
+    let status = tell_standing(rt, found.path, found.holes.standing);
+    if !found.quiet {
+        let _ = eprintln!(rt; "irig_time: {found}");
+    }
+    status
+}
+
+fn tell_standing<R: Eprint>(rt: &R, path: &str, standing: Standing) -> ExitCode
+    ensures { exit_status result ≡ holes_status standing }
+{
+    if standing.doubted != 0 {
+        return tell_doubted(rt, path, standing.doubted, &None);
+    }
+    if standing.timed {
+        return ExitCode::SUCCESS;
+    }
+    tell_timeless(rt, path, &None)
 }
 
 fn tell_timeless<R: Eprint>(rt: &R, path: &str, done: &Option<Done>) -> ExitCode

@@ -134,7 +134,11 @@ fn has_all(ran: &Ending<'_>) -> bool
 {
     matches!(
         ran,
-        Ending::Aligned(_) | Ending::Listed | Ending::Timeless(..) | Ending::Doubted(..)
+        Ending::Aligned(_)
+            | Ending::Listed
+            | Ending::Holed(_)
+            | Ending::Timeless(..)
+            | Ending::Doubted(..)
     )
 }
 
