@@ -5,7 +5,9 @@ pub mod Counted
 pub mod Pruning
 pub mod Placing
 pub mod Cheapest
+pub mod Reaching
 pub mod LeastWays
+pub mod Opens
 pub mod Growing
 pub mod EndsSoFar
 pub mod ReadBack
@@ -13,3 +15,4 @@ pub mod Least
 pub mod Elsewhere
 pub mod Placed
 pub mod Others
+pub mod Passed

@@ -1,7 +1,7 @@
 -- How much more a jump costs than any other step.
 use Rattle.std.proofs.Common.{◌≡◌, ◌+◌, ◌<◌, ◌≤◌, ◌&&◌, ℕ, Bool, true, false, Option, Some, None, if◌then◌else◌, max, min, nat_lt, length, refl, arith}
 use Rattle.std.proofs.Math.Nat.{min-le_left}
-use Rattle.std.proofs.lemmas.Bool.{ltb-true}
+use Rattle.std.proofs.lemmas.Bool.{and_from, ltb-true, lt-ltb}
 use Rattle.irig_explain.specs.declared.{claim.Kind.Kind, prices.Prices.Prices, role.Role.Role}
 use Rattle.irig_explain.specs.declared.claim.Kind.TheVariants.{Next, Step, Jump}
 use Rattle.irig_explain.specs.declared.table.TheConstants.{CANNOT, JUMP, OFF_LINE, STEP}
@@ -55,3 +55,26 @@ jump_most p r this other q f k d dearer =
 -- a jump does not depend on where it leads to
 pub jump_to : (p : Prices) (r e q this other : ℕ) (k : Kind) → price p r e q this Jump ≤ price p r e q other k + JUMP
 jump_to p r e q this other k = jump_most p r e e q other k 0 (λ _ _. omega arith)
+
+-- what is passed over is a part of what each step costs
+passed : (g : Bool) (a b : ℕ) → g ≡ true → a ≤ b → a ≤ (if g then b else 0)
+passed true a b e h = h
+passed false a b e h = absurd (cc)
+
+pub passing_least : (p : Prices) (r e q f : ℕ) (k : Kind) (passing low : ℕ) → r < q → q < length p.pulses.now
+    → passing ≤ wire p (role_at p e) r q (gone p r q) → low ≤ min passing CANNOT → low ≤ price p r e q f k
+passing_least p r e q f k passing low lt there most le =
+    passed (nat_lt r q && nat_lt q (length p.pulses.now)) low (min CANNOT (price_by p r e q f k))
+    (and_from (nat_lt r q) (nat_lt q (length p.pulses.now)) (lt-ltb r q lt) (lt-ltb q (length p.pulses.now) there))
+    (omega (arith, at_least p r e q f k, most, le))
+
+-- what a jump costs, if it leads on
+taken : (g : Bool) (a b : ℕ) → g ≡ true → a ≡ b → (if g then a else 0) ≡ b
+taken true a b e h = h
+taken false a b e h = absurd (cc)
+
+pub price_jump : (p : Prices) (r e q f cost : ℕ) → r < q → q < length p.pulses.now → min CANNOT (JUMP + least p (role_at p e) r q) ≡ cost
+    → price p r e q f Jump ≡ cost
+price_jump p r e q f cost lt there is =
+    taken (nat_lt r q && nat_lt q (length p.pulses.now)) (min CANNOT (JUMP + least p (role_at p e) r q)) cost
+    (and_from (nat_lt r q) (nat_lt q (length p.pulses.now)) (lt-ltb r q lt) (lt-ltb q (length p.pulses.now) there)) is

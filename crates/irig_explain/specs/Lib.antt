@@ -3,6 +3,9 @@ pub mod Nodes
 pub mod Rows
 pub mod Near
 pub mod Offers
+pub mod Reached
+pub mod Opened
+pub mod Classes
 pub mod Ends
 pub mod Sure
 pub mod Turned
@@ -18,3 +21,4 @@ pub mod Wires
 pub mod Priced
 pub mod Labels
 pub mod Recorded
+pub mod Damage

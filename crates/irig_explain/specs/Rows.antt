@@ -1,5 +1,5 @@
 -- The nodes of all claims of one rise. This project's own.
-use Rattle.std.specs.Prelude.{ℕ, ◌≡◌, ◌<◌, ◌≤◌, ◌⊎◌, All, Contains, List, length, slice_index_or}
+use Rattle.std.specs.Prelude.{ℕ, ◌≡◌, ◌+◌, ◌<◌, ◌≤◌, ◌⊎◌, All, Contains, List, length, slice_index_or}
 use Rattle.irig_explain.specs.declared.{claim.Kind.Kind, rises.Rises.Rises, nodes.Node.Node}
 use Rattle.irig_explain.specs.declared.claim.Kind.TheVariants.{Jump}
 use Rattle.irig_explain.specs.Explanation.{Price}
@@ -32,6 +32,11 @@ node_at row i = slice_index_or row i (record { cost = 0; rise = 0; element = 0 }
 pub record IsLeastOf (row : List Node) (best : ℕ) : Type 0 where
   pub there : 0 < length row → best < length row
   pub low : All (λ n. (node_at row best).cost ≤ n.cost) row
+
+-- a jump from one element of a rise costs at most that more than any step from another one
+abbrev pub IsMost : Price → ℕ → ℕ → ℕ → ℕ → Type 0
+IsMost price r this e most =
+    (q f : ℕ) (k : Kind) → price r this q f Jump ≤ price r e q f k + most
 
 -- no step from a node is cheaper than a jump from another one
 pub record IsBeaten (price : Price) (best n : Node) : Type 0 where

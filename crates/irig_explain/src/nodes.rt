@@ -1,15 +1,16 @@
 //! The table of nodes: the claims that a cheapest explanation may need, each with the least cost of
 //! all ways to it.
 
-ghost use Rattle.std.specs.Prelude.{◌≡◌, ◌+◌, ◌^◌, ◌<◌, ◌≤◌, ◌⊎◌, All, IfOk, true};
+ghost use Rattle.std.specs.Prelude.{ℕ, ◌≡◌, ◌+◌, ◌^◌, ◌<◌, ◌≤◌, ◌⊎◌, All, IfOk, length, slice_index_or, true};
 ghost use Rattle.irig_explain.specs.Nodes.{AreNodes};
-ghost use Rattle.irig_explain.specs.Rows.{AreKept, IsBeaten, IsLeastOf, IsRow};
+ghost use Rattle.irig_explain.specs.Rows.{AreKept, IsBeaten, IsLeastOf, IsMost, IsRow};
 
 use crate::claim::{Claim, Kind};
 use crate::costs::Costs;
 use crate::near::nodes_near;
+use crate::opening::{open_nodes, top_of};
 use crate::rises::Rises;
-use crate::ways::cheapest;
+use crate::steps::{cheapest_step, jump_ways};
 use std::alloc::{AllocError, Global};
 
 /// A claim, with the least cost of all ways to it.
@@ -47,7 +48,7 @@ pub fn nodes<C: Costs>(alloc: Global, costs: &C, rises: Rises) -> Result<Vec<Nod
     for rise in 0..rises.count {
         let row = row(alloc, costs, rises, nodes.as_slice(), rise)?;
         let best = least_of(row.as_slice());
-        let kept = kept(alloc, costs, rise, row.as_slice(), best)?;
+        let kept = kept(alloc, costs, rises.states, rise, row.as_slice(), best)?;
         nodes.extend_from_slice(kept.as_slice())?;
     }
     Ok(nodes)
@@ -67,14 +68,20 @@ fn row<C: Costs>(
         row.items) }
 {
     let near = nodes_near(rises.window, nodes, rise);
+    let top = top_of(costs, rises, nodes, near, rise);
+    let found = open_nodes(alloc, costs, rises, nodes, near, rise, top)?;
+    let opens = found.as_slice();
+    let ways = jump_ways(alloc, costs, rises, nodes, opens, rise)?;
+    let jumps = ways.as_slice();
     let mut row = Vec::new(alloc);
     for element in 0..rises.states {
+        let class = costs.to_class(element as usize);
         let to = Claim {
             rise,
             element: element as usize,
             kind: Kind::Next,
         };
-        let way = cheapest(costs, rises, nodes, near, to);
+        let way = cheapest_step(costs, rises, nodes, near, top, opens, to, jumps[class]);
         row.push(Node {
             cost: way.cost,
             rise: rise as u32,
@@ -101,33 +108,62 @@ fn least_of(row: &[Node]) -> usize
 fn kept<C: Costs>(
     alloc: Global,
     costs: &C,
+    states: u32,
     rise: usize,
     row: &[Node],
     best: usize,
 ) -> Result<Vec<Node>, AllocError>
     requires rise { All (λ n. n.rise ≡ rise) row.now }
+    requires element { All (λ n. n.element < states) row.now }
     requires best { IsLeastOf row.now best }
     ensures { IfOk result (λ kept. AreKept (C.price costs.now) row.now best kept.items) }
 {
     let mut kept = Vec::new(alloc);
+    if row.is_empty() {
+        return Ok(kept);
+    }
+    let mosts = mosts(alloc, costs, states, rise, row[best].element as usize)?;
     for index in 0..row.len() {
-        if is_needed(costs, rise, row[best], row[index]) {
+        if is_needed(costs, mosts.as_slice(), row[best], row[index]) {
             kept.push(row[index])?;
         }
     }
     Ok(kept)
 }
 
+/// For each class how much more a jump from a claim costs at most than a step from its elements.
+fn mosts<C: Costs>(
+    alloc: Global,
+    costs: &C,
+    states: u32,
+    rise: usize,
+    this: usize,
+) -> Result<Vec<u32>, AllocError>
+    ensures { IfOk result (λ mosts. (e : ℕ) → e < states
+        → (C.from_class costs.now e < length mosts.items)
+        × IsMost (C.price costs.now) rise this e
+        (slice_index_or mosts.items (C.from_class costs.now e) 0)) }
+{
+    let mut mosts = Vec::new(alloc);
+    for class in 0..costs.from_classes(states) {
+        mosts.push(costs.most_from(rise, this, class))?;
+    }
+    Ok(mosts)
+}
+
 /// Whether a step from a node can be cheaper than a jump from a cheaper one, or is that one.
-fn is_needed<C: Costs>(costs: &C, rise: usize, best: Node, node: Node) -> bool
-    requires rises { (best.rise ≡ rise) × (node.rise ≡ rise) }
+fn is_needed<C: Costs>(costs: &C, mosts: &[u32], best: Node, node: Node) -> bool
     requires cheap { best.cost ≤ node.cost }
+    requires there { C.from_class costs.now node.element < length mosts.now }
+    requires most { IsMost (C.price costs.now) node.rise best.element node.element
+        (slice_index_or mosts.now (C.from_class costs.now node.element) 0) }
+    requires rise { best.rise ≡ node.rise }
     ensures beaten { (result ≡ true) ⊎ IsBeaten (C.price costs.now) best node }
     ensures itself { node.element ≡ best.element → result ≡ true }
 {
     if node.element == best.element {
         return true;
     }
-    let most = costs.most_from(rise, best.element as usize, node.element as usize);
-    node.cost - best.cost < u64::from(most)
+    let class = costs.from_class(node.element as usize);
+    node.cost - best.cost < u64::from(mosts[class])
 }

@@ -1,13 +1,17 @@
 //! The costs of steps in a recording.
 
-ghost use Rattle.std.specs.Prelude.{◌≡◌, ◌+◌, ◌^◌, ◌<◌, ◌≤◌, IfSome, length};
+ghost use Rattle.std.specs.Prelude.{ℕ, ◌≡◌, ◌+◌, ◌^◌, ◌<◌, ◌≤◌, IfSome, length};
 ghost use Rattle.irig_explain.specs.Distances.{gone};
 ghost use Rattle.irig_explain.specs.Priced.{ahead, counted, is_next, least, on_by, price};
 ghost use Rattle.irig_explain.specs.Priced.{price_by, role_at};
+ghost use Rattle.irig_explain.specs.{Classes.class_at, Classes.class_of, Wires.wire};
+ghost use Rattle.irig_explain.specs.declared.role.Role.{Role};
+ghost use Rattle.irig_explain.specs.declared.claim.Kind.TheVariants.{Jump};
 
 use crate::claim::{Claim, Kind};
 use crate::costs::Costs;
 use crate::prices::Prices;
+use crate::reach::Reach;
 use crate::role::Role;
 use crate::table::{CANNOT, JUMP, STEP};
 
@@ -44,6 +48,10 @@ fn counted(size: u64, ahead: u64, gone: u64) -> Option<u64>
 impl<'a> Costs for Prices<'a> {
     ghost price = { price };
 
+    ghost from_class = { class_at };
+
+    ghost to_class = { λ p f. 0 };
+
     fn price(&self, from: Claim, to: Claim) -> u32 {
         if to.rise <= from.rise || self.pulses.len() <= to.rise {
             return 0;
@@ -51,15 +59,87 @@ impl<'a> Costs for Prices<'a> {
         self.price_by(from, to).min(CANNOT) as u32
     }
 
-    fn most_from(&self, rise: usize, this: usize, other: usize) -> u32 {
+    fn least(&self, rise: usize, later: usize) -> u32 {
+        if later <= rise || self.pulses.len() <= later {
+            return 0;
+        }
+        self.passing(rise, later).min(CANNOT) as u32
+    }
+
+    fn from_class(&self, element: usize) -> usize {
+        match self.role_at(element) {
+            Role::Unused => 0,
+            Role::Bit => 1,
+            Role::Position => 2,
+        }
+    }
+
+    fn to_class(&self, _element: usize) -> usize {
+        0
+    }
+
+    fn from_classes(&self, _states: u32) -> usize {
+        3
+    }
+
+    fn to_classes(&self, _states: u32) -> usize {
+        1
+    }
+
+    fn jump_to(&self, from: Claim, later: usize, _class: usize) -> u32 {
+        self.jump(self.role_at(from.element), from.rise, later)
+    }
+
+    fn jump_from(&self, rise: usize, class: usize, to: Claim) -> u32 {
+        self.jump(role_of(class), rise, to.rise)
+    }
+
+    fn reach_from(&self, from: Claim, later: usize) -> Reach {
+        if later <= from.rise || self.pulses.len() <= later {
+            return Reach::all();
+        }
+        let size = self.roles.len() as u64;
+        Reach {
+            size,
+            turned: false,
+            origin: size - from.element as u64 % size,
+            turn: size - self.gone(from.rise, later) % size,
+        }
+    }
+
+    fn reach_to(&self, rise: usize, to: Claim) -> Reach {
+        if to.rise <= rise || self.pulses.len() <= to.rise {
+            return Reach::all();
+        }
+        let size = self.roles.len() as u64;
+        Reach {
+            size,
+            turned: true,
+            origin: size + to.element as u64 % size,
+            turn: size - self.gone(rise, to.rise) % size,
+        }
+    }
+
+    fn most_from(&self, rise: usize, this: usize, class: usize) -> u32 {
         if self.pulses.len() <= rise {
             return 0;
         }
-        JUMP as u32 + self.dearer(rise, self.role_at(this), self.role_at(other)) as u32
+        JUMP as u32 + self.dearer(rise, self.role_at(this), role_of(class)) as u32
     }
 
-    fn most_to(&self, _rise: usize, _this: usize, _other: usize) -> u32 {
+    fn most_to(&self, _rise: usize, _this: usize, _class: usize) -> u32 {
         JUMP as u32
+    }
+}
+
+/// The role of the elements of a class.
+fn role_of(class: usize) -> Role
+    ensures { (role : Role) → class_of role ≡ class → result ≡ role }
+{
+    match class {
+        0 => Role::Unused,
+        1 => Role::Bit,
+        _ => Role::Position,
     }
 }
 
@@ -72,6 +152,31 @@ impl<'a> Prices<'a> {
         } else {
             Role::Unused
         }
+    }
+
+    /// What a jump costs from a rise and an element of a role to another rise.
+    fn jump(&self, role: Role, rise: usize, later: usize) -> u32
+        ensures { (e f : ℕ) → role_at self.now e ≡ role
+            → price self.now rise e later f Jump ≡ result }
+    {
+        if later <= rise || self.pulses.len() <= later {
+            return 0;
+        }
+        (JUMP + self.least(role, rise, later)).min(CANNOT) as u32
+    }
+
+    /// What is passed over between two rises costs at least, as the clock counts it.
+    fn passing(&self, rise: usize, later: usize) -> u64
+        requires order { rise < later }
+        requires later { later < length self.now.pulses.now }
+        ensures { (role : Role) → result
+            ≤ wire self.now role rise later (gone self.now rise later) }
+    {
+        let gone = self.gone(rise, later);
+        if gone == 1 {
+            return 0;
+        }
+        self.between(rise, later, gone)
     }
 
     /// What a step costs that goes on over some elements.

@@ -1,6 +1,8 @@
 //! What damage costs, in sixteenths of a nat: sixteen times minus the natural logarithm of how
 //! likely it is.
 
+ghost use Rattle.irig_explain.specs.Damage.{DamageCosts};
+
 /// Parts of a microsecond: intervals, and what is compared with them, are in these.
 pub(crate) const PART: u64 = 256;
 
@@ -63,3 +65,8 @@ pub(crate) const HALF: usize = 15;
 
 /// The window of a recording, in rises.
 pub(crate) const WINDOW: usize = 64;
+
+/// What damage costs, in numbers: the definitions have the names of the constants alone.
+pub fn costs_are_these()
+    ensures { DamageCosts }
+{}

@@ -1,9 +1,10 @@
 //! The cheapest way to a claim.
 
-ghost use Rattle.std.specs.Prelude.{◌≡◌, ◌+◌, ◌^◌, ◌<◌, ◌≤◌, ◌⊎◌, All};
+ghost use Rattle.std.specs.Prelude.{ℕ, ◌≡◌, ◌+◌, ◌*◌, ◌^◌, ◌<◌, ◌≤◌, ◌⊎◌, All, None, true};
 ghost use Rattle.irig_explain.specs.Near.{IsNear};
 ghost use Rattle.irig_explain.specs.Nodes.{AreNodes, IsCost, IsLeast, going};
-ghost use Rattle.irig_explain.specs.Offers.{Offered};
+ghost use Rattle.irig_explain.specs.Offers.{IsTop, Offered};
+ghost use Rattle.irig_explain.specs.declared.claim.Kind.{Kind};
 
 use crate::claim::{Claim, Kind};
 use crate::costs::Costs;
@@ -22,6 +23,21 @@ pub struct Way {
     pub kind: Kind,
 }
 
+impl Way {
+    /// The claim is the first one.
+    pub(crate) fn first(rises: Rises, rise: usize) -> Way
+        requires { rise < 2 ^ 31 }
+        ensures cost { result.cost ≡ rises.skip * rise }
+        ensures from { result.from ≡ None }
+    {
+        Way {
+            cost: rises.skipped(rise),
+            from: None,
+            kind: Kind::Next,
+        }
+    }
+}
+
 /// The cheapest way to a claim. It is the first one, or a step leads to it from a node near it.
 pub fn cheapest<C: Costs>(costs: &C, rises: Rises, nodes: &[Node], near: Near, to: Claim) -> Way
     requires few { to.rise < 2 ^ 31 }
@@ -29,15 +45,26 @@ pub fn cheapest<C: Costs>(costs: &C, rises: Rises, nodes: &[Node], near: Near, t
     requires near { IsNear rises.window nodes.now to.rise near }
     ensures { IsLeast (C.price costs.now) rises nodes.now to.rise to.element result }
 {
-    let mut best = Way {
-        cost: rises.skipped(to.rise),
-        from: None,
-        kind: Kind::Next,
-    };
+    let mut best = Way::first(rises, to.rise);
+    let top = top_to(costs, rises, nodes, near, to);
     for from in near.start..near.end {
-        best = offer(costs, nodes[from], from, to, best);
+        best = offer(costs, nodes[from], from, to, top, best);
     }
     best
+}
+
+/// What it costs at most: a jump from the last node.
+fn top_to<C: Costs>(costs: &C, rises: Rises, nodes: &[Node], near: Near, to: Claim) -> u64
+    requires few { to.rise < 2 ^ 31 }
+    requires small { All (λ n. n.cost < 2 ^ 63) nodes.now }
+    requires near { IsNear rises.window nodes.now to.rise near }
+    ensures { IsTop (C.price costs.now) rises nodes.now near to.rise to.element result }
+{
+    if near.end <= near.start {
+        return rises.skipped(to.rise);
+    }
+    let from = near.end - 1;
+    come(costs, nodes[from], from, to, Kind::Jump).cost
 }
 
 /// What the cheapest way to a claim costs, when the whole table is known.
@@ -52,19 +79,30 @@ pub fn cost_of<C: Costs>(costs: &C, rises: Rises, nodes: &[Node], near: Near, to
     cheapest(costs, rises, nodes, near, to).cost
 }
 
-/// The cheapest of a way to a claim and those from one node, of each kind.
-fn offer<C: Costs>(costs: &C, node: Node, from: usize, to: Claim, best: Way) -> Way
+/// The cheapest of a way to a claim and those from one node, of each kind, up to the top.
+fn offer<C: Costs>(costs: &C, node: Node, from: usize, to: Claim, top: u64, best: Way) -> Way
     requires { node.cost < 2 ^ 63 }
-    ensures { Offered (C.price costs.now) node from to best result }
+    ensures { Offered (C.price costs.now) node from to top best result }
 {
+    if is_above(costs, node, to.rise, top) {
+        return best;
+    }
     let next = come(costs, node, from, to, Kind::Next);
     let step = come(costs, node, from, to, Kind::Step);
     let jump = come(costs, node, from, to, Kind::Jump);
     cheaper(cheaper(cheaper(best, next), step), jump)
 }
 
+/// Whether no step from a node to a rise is cheap enough.
+fn is_above<C: Costs>(costs: &C, node: Node, rise: usize, top: u64) -> bool
+    requires { node.cost < 2 ^ 63 }
+    ensures { result ≡ true → (f : ℕ) (k : Kind) → top < going (C.price costs.now) node rise f k }
+{
+    top < node.cost + u64::from(costs.least(node.rise as usize, rise))
+}
+
 /// The way to a claim from one node.
-fn come<C: Costs>(costs: &C, node: Node, from: usize, to: Claim, kind: Kind) -> Way
+pub(crate) fn come<C: Costs>(costs: &C, node: Node, from: usize, to: Claim, kind: Kind) -> Way
     requires { node.cost < 2 ^ 63 }
     ensures cost { result.cost ≡ going (C.price costs.now) node to.rise to.element kind }
     ensures from { result.from ≡ Some from }
@@ -84,7 +122,7 @@ fn come<C: Costs>(costs: &C, node: Node, from: usize, to: Claim, kind: Kind) -> 
 }
 
 /// The cheaper of two ways; the first if both cost the same.
-fn cheaper(first: Way, second: Way) -> Way
+pub(crate) fn cheaper(first: Way, second: Way) -> Way
     ensures either { (result ≡ first) ⊎ (result ≡ second) }
     ensures first { result.cost ≤ first.cost }
     ensures second { result.cost ≤ second.cost }

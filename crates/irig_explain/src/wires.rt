@@ -2,6 +2,7 @@
 
 ghost use Rattle.std.specs.Prelude.{ℕ, ◌≡◌, ◌+◌, ◌^◌, ◌<◌, ◌≤◌, All, length, nat_le};
 ghost use Rattle.std.specs.List.{count_by};
+ghost use Rattle.std.specs.List.Sorted.{IsNonDecreasingBy};
 ghost use Rattle.irig_explain.specs.Looks.{Fits, IsTimely};
 ghost use Rattle.irig_explain.specs.Distances.{gone};
 ghost use Rattle.irig_explain.specs.Wires.{between, element, near, passed};
@@ -15,18 +16,18 @@ use crate::role::Role;
 use crate::stretch::Stretch;
 use crate::table::{NOTHING, PART, SKIP};
 
-/// How many of some pulses rise at a moment or after it.
+/// How many of some pulses, in their order, rise at a moment or after it.
 fn count_after(moment: u64, pulses: &[Pulse]) -> u64
+    requires { IsNonDecreasingBy (λ p. p.rise) pulses.now }
     ensures exact { result ≡ count_by (λ p. nat_le moment p.rise) pulses.now }
     ensures few { result ≤ length pulses.now }
 {
-    let mut count = 0;
-    for pulse in pulses {
-        if moment <= pulse.rise {
-            count += 1;
+    for index in 0..pulses.len() {
+        if moment <= pulses[index].rise {
+            return (pulses.len() - index) as u64;
         }
     }
-    count
+    0
 }
 
 impl<'a> Prices<'a> {
@@ -87,7 +88,7 @@ impl<'a> Prices<'a> {
         count_after(self.wire_end(rise), &self.pulses[rise + 1..later])
     }
 
-    fn between(&self, rise: usize, later: usize, count: u64) -> u64
+    pub(crate) fn between(&self, rise: usize, later: usize, count: u64) -> u64
         requires order { rise < later }
         requires later { later < length self.now.pulses.now }
         requires some { 0 < count }

@@ -1,9 +1,10 @@
 //! The cheapest explanation of ten rises, and the cost below which all give an interval a place.
 
 ghost use Rattle.std.specs.Prelude.{Bool, ◌≡◌, ◌^◌, ◌≤◌};
+ghost use Rattle.irig_explain.specs.declared.claim.Kind.TheVariants.{Jump};
 ghost use Rattle.irig_part_tests.specs.Looks.{kind_price, look_place, look_price};
 
-use irig_explain::{Asked, Claim, Costs, Explanation, Kind, Places, Rises, Tables, explain};
+use irig_explain::{Asked, Claim, Costs, Explanation, Kind, Places, Reach, Rises, Tables, explain};
 use std::alloc::{AllocError, Global};
 use std::process::Abort;
 
@@ -29,6 +30,10 @@ fn price_of(kind: Kind, is_next: bool) -> u32
 impl Costs for Looks {
     ghost price = { λ l. look_price l.elements.now };
 
+    ghost from_class = { λ l e. 0 };
+
+    ghost to_class = { λ l f. f };
+
     fn price(&self, from: Claim, to: Claim) -> u32 {
         let between = to.rise.saturating_sub(from.rise).saturating_sub(1).min(9) as u32;
         let look = if to.rise < self.elements.len() {
@@ -41,14 +46,61 @@ impl Costs for Looks {
         8 * between + seen + price_of(to.kind, is_next)
     }
 
+    // A step to the next rise and element costs nothing.
+    fn least(&self, _rise: usize, _later: usize) -> u32 {
+        0
+    }
+
+    fn from_class(&self, _element: usize) -> usize {
+        0
+    }
+
+    fn to_class(&self, element: usize) -> usize {
+        element
+    }
+
+    fn from_classes(&self, _states: u32) -> usize {
+        1
+    }
+
+    fn to_classes(&self, states: u32) -> usize {
+        states as usize
+    }
+
+    fn jump_to(&self, from: Claim, later: usize, class: usize) -> u32 {
+        self.price(from, jump(later, class))
+    }
+
+    fn jump_from(&self, rise: usize, class: usize, to: Claim) -> u32 {
+        self.price(jump(rise, class), jump(to.rise, to.element))
+    }
+
+    fn reach_from(&self, _from: Claim, _later: usize) -> Reach {
+        Reach::all()
+    }
+
+    fn reach_to(&self, _rise: usize, _to: Claim) -> Reach {
+        Reach::all()
+    }
+
     // The jump.
-    fn most_from(&self, _rise: usize, _this: usize, _other: usize) -> u32 {
+    fn most_from(&self, _rise: usize, _this: usize, _class: usize) -> u32 {
         16
     }
 
     // The jump, and a rise that is unlike the one element and like the other.
-    fn most_to(&self, _rise: usize, _this: usize, _other: usize) -> u32 {
+    fn most_to(&self, _rise: usize, _this: usize, _class: usize) -> u32 {
         20 + 16
+    }
+}
+
+fn jump(rise: usize, element: usize) -> Claim
+    ensures { result ≡ record { rise = rise; element = element; kind = Jump } }
+{
+    Claim {
+        rise,
+        element,
+        kind: Kind::Jump,
     }
 }
 

@@ -1,4 +1,4 @@
-use Rattle.std.proofs.Common.{◌≡◌}
+use Rattle.std.proofs.Common.{◌≡◌, ◌<◌}
 use Rattle.std.proofs.lemmas.List.Elements.{All-weaker}
 use Rattle.irig_explain.specs.Rows.{AreKept, IsLeastOf, IsOf, IsRow}
 use Rattle.irig_explain.proofs.Growing.{nodes_more}
@@ -10,6 +10,14 @@ kept-requires-clause-rise g c =
     let row = c.in_ok-row.row.items in
     let is : IsRow price rises nodes r rises.states row = rw c.as_slice.ensures.value at c.in_ok-row.ensures in
     rw c.as_slice-in-loop-rise-2.ensures.value (All-weaker (IsOf price rises nodes r rises.states) (λ n. n.rise ≡ r) (λ n h. h.rise) row is.each)
+
+pub kept-requires-clause-element : goal.kept-requires-clause-element
+kept-requires-clause-element g c =
+    let price = g.C.Costs.price c.args.costs.now in let rises = c.args.rises in let nodes = c.loop-rise.nodes.items in let r = c.loop-rise.rise in
+    let row = c.in_ok-row.row.items in
+    let is : IsRow price rises nodes r rises.states row = rw c.as_slice.ensures.value at c.in_ok-row.ensures in
+    rw c.as_slice-in-loop-rise-2.ensures.value
+    (All-weaker (IsOf price rises nodes r rises.states) (λ n. n.element < rises.states) (λ n h. h.element) row is.each)
 
 pub kept-requires-clause-best : goal.kept-requires-clause-best
 kept-requires-clause-best g c =

@@ -1,7 +1,14 @@
-use Rattle.std.proofs.Common.{◌≡◌, ◌⊎◌, ◌∙◌, Some, ap, sym, subst, inl, inr, arith}
+use Rattle.std.proofs.Common.{◌≡◌, ◌⊎◌, ◌∙◌, Some, ap, sym, subst, refl, inl, inr, arith}
 use Rattle.irig_explain.specs.declared.{claim.Kind.TheVariants.Next, claim.Kind.TheVariants.Step, claim.Kind.TheVariants.Jump, ways.Way.Way}
 use Rattle.irig_explain.specs.Nodes.{going}
 use Rattle.irig_explain.proofs.ways.offer.Goals as goal
+
+pub returns-then-is_above : goal.returns-then-is_above
+returns-then-is_above g c = record {
+  kept = omega arith;
+  least = λ k low. let above = c.is_above.ensures c.if-is_above.true c.args.to.element k in absurd (omega (arith, above, low));
+  origin = inl refl;
+}
 
 pub returns : goal.returns
 returns g c =
@@ -15,9 +22,9 @@ returns g c =
     record {
       kept = omega (arith, c.cheaper.ensures.first, c.cheaper-2.ensures.first, c.cheaper-3.ensures.first);
       least = elim [
-        | Next ↦ omega (arith, c.come-next.ensures.cost, c.cheaper.ensures.second, c.cheaper-2.ensures.first, c.cheaper-3.ensures.first)
-        | Step ↦ omega (arith, c.come-step.ensures.cost, c.cheaper-2.ensures.second, c.cheaper-3.ensures.first)
-        | Jump ↦ omega (arith, c.come-jump.ensures.cost, c.cheaper-3.ensures.second)
+        | Next ↦ λ low. omega (arith, c.come-next.ensures.cost, c.cheaper.ensures.second, c.cheaper-2.ensures.first, c.cheaper-3.ensures.first)
+        | Step ↦ λ low. omega (arith, c.come-step.ensures.cost, c.cheaper-2.ensures.second, c.cheaper-3.ensures.first)
+        | Jump ↦ λ low. omega (arith, c.come-jump.ensures.cost, c.cheaper-3.ensures.second)
       ];
       origin = elim c.cheaper-3.ensures.either [ inl e ↦ subst P (sym e) two | inr e ↦ subst P (sym e) jump ];
     }

@@ -1,10 +1,7 @@
-use Rattle.std.proofs.Common.{◌≡◌, ◌≤◌, take, nat_le}
-use Rattle.std.specs.List.{count_by}
+use Rattle.std.proofs.Common.{◌<◌, ℕ, length, get_or}
+use Rattle.irig_explain.specs.declared.pulse.Pulse.{Pulse}
 use Rattle.irig_explain.proofs.wires.count_after.Given as goal
 
--- those so far
-abbrev pub invariant-loop-pulse : goal.invariant-loop-pulse
-invariant-loop-pulse l = record {
-  exact : l.count ≡ count_by (λ p. nat_le l.fn.moment p.rise) (take l.pulse-index l.pulses);
-  few : l.count ≤ l.pulse-index;
-}
+-- those so far rise before the moment
+abbrev pub invariant-loop-index : goal.invariant-loop-index
+invariant-loop-index l = (j : ℕ) (d : Pulse) → j < l.index → j < length l.pulses → (get_or l.pulses j d).rise < l.fn.moment

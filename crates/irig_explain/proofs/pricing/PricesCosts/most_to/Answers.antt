@@ -2,4 +2,4 @@ use Rattle.irig_explain.proofs.Pruning.{jump_to}
 use Rattle.irig_explain.proofs.pricing.PricesCosts.most_to.Goals as goal
 
 pub returns : goal.returns
-returns c = λ r e k. jump_to c.args.self.now r e c.args._rise c.args._this c.args._other k
+returns c = λ f r e k of. jump_to c.args.self.now r e c.args._rise c.args._this f k

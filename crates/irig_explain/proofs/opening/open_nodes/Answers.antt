@@ -1,0 +1,33 @@
+use Rattle.std.proofs.Common.{◌<◌, length, get_or, arith}
+use Rattle.std.proofs.lemmas.Option.{slice_get-get_or}
+use Rattle.irig_explain.proofs.{Members.no_node, Opens.closed_more, Opens.opened_more}
+use Rattle.irig_explain.proofs.opening.open_nodes.Goals as goal
+use Rattle.irig_explain.proofs.opening.open_nodes.Goals.{then-can_lead+in_ok-push, else-can_lead}
+
+pub loop-from-init : goal.loop-from-init
+loop-from-init g c = rw c.new-opens.ensures.items (record {
+  each = λ i d lt. absurd (omega arith);
+  others = λ u m at le lt. absurd (omega arith);
+})
+
+pub loop-from-preserved : goal.loop-from-preserved
+loop-from-preserved g c =
+    let price = g.C.Costs.price c.args.costs.now in let nodes = c.args.nodes.now in let i = c.loop-from.from in
+    let start = c.args.near.start in let q = c.args.rise in let top = c.args.top in let old = c.loop-from.opens.items in
+    let lt : i < length nodes = let end = c.requires.near.below in omega arith in
+    let at = slice_get-get_or nodes i no_node lt in
+    elim c.if-can_lead.branch [
+      | then-can_lead+in_ok-push w ↦
+          rw (w.opens-is, w.in_ok-push.ensures.items)
+          (opened_more price c.args.rises nodes q start i top old _ c.loop-from.invariant
+          (record {
+            node = get_or nodes i no_node;
+            at = rw w.opened.ensures.from at;
+            within = record { later = c.requires.near.later i _ at (omega arith); near = c.requires.near.near i _ at (omega arith) };
+            fits = w.opened.ensures.fits;
+            reach = w.opened.ensures.reach;
+          })
+          w.opened.ensures.from)
+      | else-can_lead w ↦
+          rw w.opens-is (closed_more price c.args.rises nodes q start i top old c.loop-from.invariant (c.can_lead.ensures w.if-can_lead.false))
+    ]
