@@ -149,12 +149,12 @@ stops_more a b front line rest OutOfMemory h k = absurd k
 stops_more a b front line rest (NotSafe why) h k = absurd k
 
 pub stops_here : (xs : List Line) (i : ℕ) (x : Line) (a b : Machine) (reason : Reason) → i < length xs → x ≡ get_or xs i x
-    → ObeyedAll a (texts (take i xs)) b → StopsAt b x.bytes.items reason → StopsIn a (texts xs) reason
+    → ObeyedAll a (texts (take i xs)) b → StopsAt b x.bytes.now reason → StopsIn a (texts xs) reason
 stops_here xs i x a b reason within is h k =
     let rest : drop i xs ≡ x ∷ drop (i + 1) xs = drop_more xs i x within ∙ ap (λ (y : Line). y ∷ drop (i + 1) xs) (sym is) in
-    let whole : texts xs ≡ texts (take i xs) ++ x.bytes.items ∷ texts (drop (i + 1) xs) =
-    ap texts (sym (take-append-drop i xs) ∙ ap (λ l. take i xs ++ l) rest) ∙ map-append (λ line. line.bytes.items) (take i xs) (x ∷ drop (i + 1) xs) in
-    subst (λ (l : List (List ℕ)). StopsIn a l reason) (sym whole) (stops_more a b (texts (take i xs)) x.bytes.items (texts (drop (i + 1) xs)) reason h k)
+    let whole : texts xs ≡ texts (take i xs) ++ x.bytes.now ∷ texts (drop (i + 1) xs) =
+    ap texts (sym (take-append-drop i xs) ∙ ap (λ l. take i xs ++ l) rest) ∙ map-append (λ line. line.bytes.now) (take i xs) (x ∷ drop (i + 1) xs) in
+    subst (λ (l : List (List ℕ)). StopsIn a l reason) (sym whole) (stops_more a b (texts (take i xs)) x.bytes.now (texts (drop (i + 1) xs)) reason h k)
 
 -- a group that was begun and is dropped
 pub begin_refused : (a b : Machine) (first : List ℕ) (rest : List (List ℕ)) (why : Refusal) → Asks command.Begin first → Calls Call.Begin a (told.Refused why) b
@@ -218,9 +218,9 @@ line_swayed opened before a b line OutOfMemory h k = line_made a b line h
 line_swayed opened before a b line (NotSafe why) h k = (line_made a b line h, k.0, k.1)
 
 -- the text of one line alone
-pub one_text : (xs : List Line) (x : Line) → 1 ≤ length xs → length xs < 2 → x ≡ get_or xs 0 x → texts xs ≡ x.bytes.items ∷ []
+pub one_text : (xs : List Line) (x : Line) → 1 ≤ length xs → length xs < 2 → x ≡ get_or xs 0 x → texts xs ≡ x.bytes.now ∷ []
 one_text [] x least below is = absurd (omega (arith, least))
-one_text (y ∷ []) x least below is = ap (λ (z : Line). z.bytes.items ∷ []) (sym is)
+one_text (y ∷ []) x least below is = ap (λ (z : Line). z.bytes.now ∷ []) (sym is)
 one_text (y ∷ z ∷ ys) x least below is = absurd (omega (arith, below))
 
 -- an edit is made or refused

@@ -64,8 +64,8 @@ ends_of (x ∷ ys) a b two first last =
     let there : b ≡ get_or ys n b = last ∙ ap (λ k. get_or (x ∷ ys) k b) at in
     ap (λ h. h ∷ ys) (sym first) ∙ ap (λ l. a ∷ l) (whole ∙ (ap (λ y. take n ys ++ y ∷ []) (sym there) ∙ ap (λ k. take k ys ++ b ∷ []) (sym less)))
 
-pub texts_of_ends : (xs inner : List Line) (a b : Line) → xs ≡ a ∷ (inner ++ b ∷ []) → texts xs ≡ a.bytes.items ∷ (texts inner ++ b.bytes.items ∷ [])
-texts_of_ends xs inner a b e = ap texts e ∙ ap (λ l. a.bytes.items ∷ l) (map-append (λ line. line.bytes.items) inner (b ∷ []))
+pub texts_of_ends : (xs inner : List Line) (a b : Line) → xs ≡ a ∷ (inner ++ b ∷ []) → texts xs ≡ a.bytes.now ∷ (texts inner ++ b.bytes.now ∷ [])
+texts_of_ends xs inner a b e = ap texts e ∙ ap (λ l. a.bytes.now ∷ l) (map-append (λ line. line.bytes.now) inner (b ∷ []))
 
 -- a group is its begin, its lines and its end
 pub group_obeyed : (a b : Machine) (first last : List ℕ) (lines : List (List ℕ)) → Asks command.Begin first → Asks command.End last → IsGroup a lines b
@@ -255,21 +255,21 @@ remarks_of_more [] (r ∷ remarks) line remark h k = absurd h
 remarks_of_more (l ∷ lines) [] line remark h k = absurd h
 remarks_of_more (l ∷ lines) (r ∷ remarks) line remark h k = (h.0, remarks_of_more lines remarks line remark h.1 k)
 
-pub texts_more : (xs : List Line) (i : ℕ) (x : Line) → i < length xs → x ≡ get_or xs i x → texts (take (i + 1) xs) ≡ texts (take i xs) ++ x.bytes.items ∷ []
+pub texts_more : (xs : List Line) (i : ℕ) (x : Line) → i < length xs → x ≡ get_or xs i x → texts (take (i + 1) xs) ≡ texts (take i xs) ++ x.bytes.now ∷ []
 texts_more xs i x within is =
-    ap texts (take_more xs i x within) ∙ (map-append (λ line. line.bytes.items) (take i xs) (get_or xs i x ∷ [])
-    ∙ ap (λ (y : Line). texts (take i xs) ++ y.bytes.items ∷ []) (sym is))
+    ap texts (take_more xs i x within) ∙ (map-append (λ line. line.bytes.now) (take i xs) (get_or xs i x ∷ [])
+    ∙ ap (λ (y : Line). texts (take i xs) ++ y.bytes.now ∷ []) (sym is))
 
 -- the lines so far as comments, and one more
 pub remarked_more : (xs : List Line) (i : ℕ) (x : Line) (old mid new : List ℕ) → i < length xs → x ≡ get_or xs i x
     → ((rs : List (List ℕ)) × AllByRecursion IsRemark rs × AreRemarksOf (texts (take i xs)) rs × (mid ≡ old ++ unlines rs))
-    → ((r : List ℕ) × IsRemark r × IsRemarkOf x.bytes.items r × (new ≡ mid ++ (r ++ 10 ∷ [])))
+    → ((r : List ℕ) × IsRemark r × IsRemarkOf x.bytes.now r × (new ≡ mid ++ (r ++ 10 ∷ [])))
     → (rs : List (List ℕ)) × AllByRecursion IsRemark rs × AreRemarksOf (texts (take (i + 1) xs)) rs × (new ≡ old ++ unlines rs)
 remarked_more xs i x old mid new within is h k = (
   h.0 ++ k.0 ∷ [],
   all-append IsRemark h.0 (k.0 ∷ []) h.1 (k.1, tt),
   subst (λ (l : List (List ℕ)). AreRemarksOf l (h.0 ++ k.0 ∷ [])) (sym (texts_more xs i x within is))
-      (remarks_of_more (texts (take i xs)) h.0 x.bytes.items k.0 h.2 k.2),
+      (remarks_of_more (texts (take i xs)) h.0 x.bytes.now k.0 h.2 k.2),
   k.3 ∙ (ap (λ l. l ++ (k.0 ++ 10 ∷ [])) h.3 ∙ (append_assoc old (unlines h.0) (k.0 ++ 10 ∷ [])
       ∙ ap (λ l. old ++ l) (ap (λ l. unlines h.0 ++ l) (sym (unlines_one k.0)) ∙ sym (unlines-append h.0 (k.0 ∷ []))))),
 )

@@ -1,5 +1,5 @@
 -- What a run leaves, and what is written of it, if the text of the session was kept before it.
-use Rattle.std.proofs.Common.{◌≡◌, ◌==◌, ◌≢◌, ℕ, Bool, true, false, List, [], ◌∷◌, Option, Some, None, length, refl, ap, sym, ◌∙◌, inl, inr, arith}
+use Rattle.std.proofs.Common.{◌≡◌, ◌==◌, ◌≢◌, ◌≤◌, ℕ, Bool, true, false, List, [], ◌∷◌, Option, Some, None, length, refl, ap, sym, ◌∙◌, inl, inr, arith}
 use Rattle.std.specs.Prelude.{IfSome, if◌then◌else◌}
 use Rattle.std.proofs.lemmas.Bool.Decides.{nat_tests}
 use Rattle.irig_recording.specs.FileText.{file_text}
@@ -8,18 +8,20 @@ use Rattle.irig_script.specs.{Obey.Machine.Machine, Obey.Replies.dump_text}
 use Rattle.irig_guarding.specs.{GuardedRun.product_texts, KeptText.IsKept, KeptText.texts_or, Repair.Agrees, Undone.IsSameOrMade, Undone.RedoesNoMore}
 use Rattle.irig_guarding.specs.declared.product.Product.{Product}
 use Rattle.irig_guarding.specs.declared.product.Product.TheVariants as product
-use Rattle.irig_guarding.specs.{Fillings.Fills, Guarded.IsGuarded, GuardedRun.Guards, Reading.original_of, Trials.IsTried}
+use Rattle.irig_guarding.specs.{Fillings.Fills, Guarded.IsGuarded, GuardedRun.Guards, Reading.original_of, ScriptLength.script_limit, Trials.IsTried}
 use Rattle.irig_safety.specs.Terms.{TermsView}
 use Rattle.irig_script.specs.declared.obey.status.Status.{Status}
 use Rattle.irig_guarding.proofs.RedoLemmas.{same_work, unkept_same}
 
 -- a run that came to its end
 abbrev pub run_of : (terms : TermsView) (first last : Machine) (script : Option (List ℕ)) (proposal printed : List ℕ) (status : Status) (filled : ℕ)
-    → IfSome script (λ all. proposal ≡ all) → IsGuarded terms first printed last → IsTried terms first proposal printed status last
+    → IfSome script (λ all. proposal ≡ all) → length proposal ≤ script_limit → IsGuarded terms first printed last
+    → IsTried terms first proposal printed status last
     → Fills (original_of terms first.state) last.state filled → Guards terms first script
-run_of terms first last script proposal printed status filled whole guarded tried fillings = record {
+run_of terms first last script proposal printed status filled whole short guarded tried fillings = record {
   proposal = proposal;
   whole = whole;
+  short = short;
   printed = printed;
   last = last;
   guarded = guarded;

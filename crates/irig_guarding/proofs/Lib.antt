@@ -6,6 +6,7 @@ pub mod FillingLemmas
 pub mod GuardLemmas
 pub mod KeptLemmas
 pub mod KnownLemmas
+pub mod LineLemmas
 pub mod OddLemmas
 pub mod PlaceLemmas
 pub mod PrintedLemmas
@@ -15,6 +16,7 @@ pub mod RedoLemmas
 pub mod RepairLemmas
 pub mod RisingFrames
 pub mod RisingPulses
+pub mod ScriptLemmas
 pub mod StepsLemmas
 pub mod TrialLemmas
 pub mod UndoneLemmas

@@ -1,5 +1,5 @@
 -- Where the commands of a repair change the pulses.
-use Rattle.std.proofs.Common.{◌≡◌, ◌≤◌, ◌+◌, ◌-◌, ◌*◌, ℕ, ℤ, zero, suc, Bool, List, [], ◌∷◌, Option, length, map, refl, ap, sym, ◌∙◌, subst, arith}
+use Rattle.std.proofs.Common.{◌≡◌, ◌≤◌, ◌+◌, ◌-◌, ◌*◌, ℕ, ℤ, zero, suc, Bool, List, [], ◌∷◌, length, refl, ap, sym, ◌∙◌, subst, arith}
 use Rattle.std.proofs.lemmas.List.{length-map}
 use Rattle.irig_codes.specs.declared.width.Element.{Element}
 use Rattle.irig_moment.specs.Moment.{MomentView}
@@ -16,7 +16,7 @@ use Rattle.irig_edit.proofs.EditLemmas.GeneratedPulses.{frames_many}
 use Rattle.irig_lines.specs.{declared.address.Address.Address, declared.command.Command.Command, declared.range.Range.Range, declared.time.Time.Time}
 use Rattle.irig_lines.specs.declared.command.Command.TheVariants as command
 use Rattle.irig_script.specs.{Obey.Machine.Machine, Obey.Machine.present_in, Obey.Obeying.Obeys}
-use Rattle.irig_script.specs.Obey.PulseNumbers.{first_of, join_last_of, last_of, number_at, time_of}
+use Rattle.irig_script.specs.Obey.PulseNumbers.{first_of, last_of, number_at, time_of}
 use Rattle.irig_script.specs.declared.print.reply.Reply.TheVariants as told
 use Rattle.irig_guarding.specs.{Known.Became, Repair.IsRepair}
 use Rattle.irig_guarding.proofs.RepairLemmas.{edit_of, makes}

@@ -1,7 +1,7 @@
 -- Pulses that are where they have to be, frame by frame.
 use Rattle.std.proofs.Common.{◌≡◌, ◌+◌, ◌-◌, ◌<◌, ◌≤◌, ◌++◌, ◌==◌, ℕ, zero, suc, Bool, true, false, List, [], ◌∷◌, Option, Some, None, length, drop, get_or, map, slice_get}
 use Rattle.std.proofs.Common.{inl, inr, refl, ap, sym, ◌∙◌, subst, arith}
-use Rattle.std.specs.Prelude.{◌⊎◌, ◌↔◌, IfErr, IfOk, IsTrue, OnErr, OnOk, Result, Ok, Err}
+use Rattle.std.specs.Prelude.{IfErr, IfOk, OnErr, OnOk, Result, Ok, Err}
 use Rattle.std.specs.List.{AllByRecursion, flat_map}
 use Rattle.std.proofs.lemmas.List.{drop_all, get_or-drop}
 use Rattle.std.proofs.lemmas.Bool.Decides.{nat_tests}
@@ -16,12 +16,12 @@ use Rattle.irig_safety.specs.{Original.OriginalView, Original.near_by, Original.
 use Rattle.irig_safety.specs.{Rises.KeepsRises, declared.witnesses.Witnesses.Witnesses}
 use Rattle.irig_safety.specs.declared.fault.Fault.TheVariants.{Lost, Misplaced, Moved}
 use Rattle.irig_safety.specs.Terms.{TermsView}
-use Rattle.irig_safety.proofs.SafetyLemmas.{drop-item, drop_past, next_behind}
+use Rattle.irig_safety.proofs.SafetyLemmas.{drop-item, next_behind}
 use Rattle.irig_guarding.specs.Pulses.{Comes, PulsesAt, PulsesFrom, StandFrom, Stands, StandsAs, StrayFrom}
 use Rattle.irig_guarding.specs.Standing.{IsRooted, StandBy, StrayBy, UnrootedFrom}
 use Rattle.irig_guarding.specs.Reading.{fine_frames, original_of, seen_at, seen_by, seen_frames, shown_at, shown_by}
 use Rattle.irig_guarding.specs.declared.seen.Seen.{Seen}
-use Rattle.irig_guarding.proofs.ControlLemmas.{IsBeforeAll, after_all, before_next, drop_seen}
+use Rattle.irig_guarding.proofs.ControlLemmas.{IsBeforeAll, drop_seen}
 
 -- the pulses of frames with a fault are not where they have to be
 stray_so : (o : OriginalView) (s : State) (ms : List ℕ) (a2 a : Option Shown) (old : List Shown) (new : List Seen) (why : Fault)

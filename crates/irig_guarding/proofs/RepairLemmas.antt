@@ -312,8 +312,8 @@ refused_end a b why h = (closed why h, refused_same End (work_in a) (work_in b) 
     closed refusal.GroupFloor h = not_some a.floor refusal.GroupFloor h.0
 
 -- one line alone
-pub one_obeyed : (xs : List Line) (x : Line) (a b : Machine) → 1 ≤ length xs → length xs < 2 → x ≡ get_or xs 0 x → Obeyed a x.bytes.items b
+pub one_obeyed : (xs : List Line) (x : Line) (a b : Machine) → 1 ≤ length xs → length xs < 2 → x ≡ get_or xs 0 x → Obeyed a x.bytes.now b
     → ObeyedAll a (texts xs) b
 one_obeyed [] x a b least below is h = absurd (omega (arith, least))
-one_obeyed (y ∷ []) x a b least below is h = (b, subst (λ (z : Line). Obeyed a z.bytes.items b) is h, refl)
+one_obeyed (y ∷ []) x a b least below is h = (b, subst (λ (z : Line). Obeyed a z.bytes.now b) is h, refl)
 one_obeyed (y ∷ z ∷ ys) x a b least below is h = absurd (omega (arith, below))

@@ -1,7 +1,6 @@
 -- Loose pulses and what is in their places, one by one.
 use Rattle.std.proofs.Common.{◌≡◌, ◌+◌, ◌≤◌, ◌||◌, ℕ, suc, Bool, true, false, List, [], ◌∷◌, Some, add-one, ap, drop, drop-cons, length, refl, slice_get, subst, sym, ◌∙◌, take}
 use Rattle.std.proofs.Common.{get_or, inl, inr}
-use Rattle.std.specs.List.{AllByRecursion}
 use Rattle.std.proofs.lemmas.List.{drop_all, take_all}
 use Rattle.std.proofs.lemmas.List.Folds.{list_any_at, list_any_more}
 use Rattle.std.proofs.lemmas.Option.{get_or_from_slice_get, slice_get_within}

@@ -96,7 +96,7 @@ texts_from xs at end less =
     let there : drop (end - at) (drop at xs) ≡ drop end xs =
     let e : at + (end - at) ≡ end = omega arith in drop-drop (end - at) at xs ∙ ap (λ n. drop n xs) e in
     ap texts (sym (take-append-drop (end - at) (drop at xs)) ∙ ap (λ l. take (end - at) (drop at xs) ++ l) there)
-    ∙ map-append (λ line. line.bytes.items) (take (end - at) (drop at xs)) (drop end xs)
+    ∙ map-append (λ line. line.bytes.now) (take (end - at) (drop at xs)) (drop end xs)
 
 take_on : {X : Type 0} (at n : ℕ) (xs : List X) → take at xs ++ take n (drop at xs) ≡ take (at + n) xs
 take_on zero n xs = let e : n ≡ 0 + n = omega arith in ap (λ k. take k xs) e
@@ -106,7 +106,7 @@ take_on (suc at) n (x ∷ xs) = let e : suc (at + n) ≡ suc at + n = omega arit
 pub texts_to : (xs : List Line) (at end : ℕ) → at < end → texts (take at xs) ++ texts (take (end - at) (drop at xs)) ≡ texts (take end xs)
 texts_to xs at end less =
     let e : at + (end - at) ≡ end = omega arith in
-    sym (map-append (λ line. line.bytes.items) (take at xs) (take (end - at) (drop at xs))) ∙ ap texts (take_on at (end - at) xs ∙ ap (λ n. take n xs) e)
+    sym (map-append (λ line. line.bytes.now) (take at xs) (take (end - at) (drop at xs))) ∙ ap texts (take_on at (end - at) xs ∙ ap (λ n. take n xs) e)
 
 -- the lines of a script
 cut_lines : (ls : List (List ℕ)) (last : List ℕ) → AllByRecursion IsPlain ls → lines_of (unlines ls ++ last) ≡ ls ++ lines_of last
@@ -138,20 +138,20 @@ line_alone (b ∷ bytes) h some = last_line b bytes h
 not_none : (n : ℕ) (r : Bool) → r ≡ (n == 0) → r ≡ false → n ≡ 0 → ⊥
 not_none n r is f e = let bad : false ≡ true = sym f ∙ (is ∙ ap (λ k. k == 0) e) in cc
 
-pub lines_one : (old new : List Line) (x : Line) (n : ℕ) (r : Bool) → new ≡ old ++ x ∷ [] → r ≡ (n == 0) → r ≡ false → length x.bytes.items ≡ n
-    → texts new ≡ texts old ++ lines_of x.bytes.items
+pub lines_one : (old new : List Line) (x : Line) (n : ℕ) (r : Bool) → new ≡ old ++ x ∷ [] → r ≡ (n == 0) → r ≡ false → length x.bytes.now ≡ n
+    → texts new ≡ texts old ++ lines_of x.bytes.now
 lines_one old new x n r e is f same =
-    let some : length x.bytes.items ≢ 0 = λ none. not_none n r is f (sym same ∙ none) in
-    ap texts e ∙ (map-append (λ line. line.bytes.items) old (x ∷ []) ∙ ap (λ l. texts old ++ l) (sym (line_alone x.bytes.items x.plain some)))
+    let some : length x.bytes.now ≢ 0 = λ none. not_none n r is f (sym same ∙ none) in
+    ap texts e ∙ (map-append (λ line. line.bytes.now) old (x ∷ []) ∙ ap (λ l. texts old ++ l) (sym (line_alone x.bytes.now x.plain some)))
 
 -- a line that begins no group
 item_there : (xs : List Line) (at : ℕ) (x : Line) → at < length xs → x ≡ get_or xs at x → drop at xs ≡ x ∷ drop (at + 1) xs
 item_there xs at x within is = drop_more xs at x within ∙ ap (λ (y : Line). y ∷ drop (at + 1) xs) (sym is)
 
 pub cut_line : (xs : List Line) (at n : ℕ) (x : Line) (rest : List (List ℕ)) → at < length xs → n ≡ 1 → x ≡ get_or xs at x
-    → (Asks command.Begin x.bytes.items → ⊥) → IsCutBefore (texts (take n (drop at xs))) rest
+    → (Asks command.Begin x.bytes.now → ⊥) → IsCutBefore (texts (take n (drop at xs))) rest
 cut_line xs at n x rest within one is other =
-    inl (x.bytes.items, ap (λ k. texts (take k (drop at xs))) one ∙ ap (λ l. texts (take 1 l)) (item_there xs at x within is), other)
+    inl (x.bytes.now, ap (λ k. texts (take k (drop at xs))) one ∙ ap (λ l. texts (take 1 l)) (item_there xs at x within is), other)
 
 abbrev pub IsUnclosed : List (List ℕ) → Type 0
 IsUnclosed lines = AllByRecursion (λ line. IsClosing line → ⊥) lines
@@ -161,59 +161,59 @@ pub unclosed_none : (xs : List Line) (k n : ℕ) → n ≡ 0 → IsUnclosed (tex
 unclosed_none xs k n e = subst (λ (m : ℕ). IsUnclosed (texts (take m (drop k xs)))) (sym e) tt
 
 inner_more : (xs : List Line) (at place : ℕ) (x : Line) → at + 1 ≤ place → place < length xs → x ≡ get_or xs place x
-    → texts (take (place - (at + 1) + 1) (drop (at + 1) xs)) ≡ texts (take (place - (at + 1)) (drop (at + 1) xs)) ++ x.bytes.items ∷ []
+    → texts (take (place - (at + 1) + 1) (drop (at + 1) xs)) ≡ texts (take (place - (at + 1)) (drop (at + 1) xs)) ++ x.bytes.now ∷ []
 inner_more xs at place x least most is =
     let ys = drop (at + 1) xs in
     let m = place - (at + 1) in
     let within : m < length ys = omega (arith, length-drop (at + 1) xs, least, most) in
     let place_is : at + 1 + m ≡ place = omega (arith, least) in
     let there : get_or ys m x ≡ x = get_or-drop (at + 1) xs m x ∙ (ap (λ k. get_or xs k x) place_is ∙ sym is) in
-    ap texts (take_more ys m x within) ∙ (map-append (λ line. line.bytes.items) (take m ys) (get_or ys m x ∷ [])
-    ∙ ap (λ (y : Line). texts (take m ys) ++ y.bytes.items ∷ []) there)
+    ap texts (take_more ys m x within) ∙ (map-append (λ line. line.bytes.now) (take m ys) (get_or ys m x ∷ [])
+    ∙ ap (λ (y : Line). texts (take m ys) ++ y.bytes.now ∷ []) there)
 
 unclosed-append : (xs : List (List ℕ)) (y : List ℕ) → IsUnclosed xs → (IsClosing y → ⊥) → IsUnclosed (xs ++ y ∷ [])
 unclosed-append [] y h k = (k, tt)
 unclosed-append (x ∷ xs) y h k = (h.0, unclosed-append xs y h.1 k)
 
 pub unclosed_more : (xs : List Line) (at place : ℕ) (x : Line) → at + 1 ≤ place → place < length xs → x ≡ get_or xs place x
-    → (IsClosing x.bytes.items → ⊥) → IsUnclosed (texts (take (place - (at + 1)) (drop (at + 1) xs)))
+    → (IsClosing x.bytes.now → ⊥) → IsUnclosed (texts (take (place - (at + 1)) (drop (at + 1) xs)))
     → IsUnclosed (texts (take (place + 1 - (at + 1)) (drop (at + 1) xs)))
 unclosed_more xs at place x least most is other h =
     let next : place - (at + 1) + 1 ≡ place + 1 - (at + 1) = omega (arith, least) in
     subst IsUnclosed (sym (inner_more xs at place x least most is) ∙ ap (λ k. texts (take k (drop (at + 1) xs))) next)
-    (unclosed-append (texts (take (place - (at + 1)) (drop (at + 1) xs))) x.bytes.items h other)
+    (unclosed-append (texts (take (place - (at + 1)) (drop (at + 1) xs))) x.bytes.now h other)
 
 -- a group that was closed, or is open at the end
 pub cut_closed : (xs : List Line) (at place n : ℕ) (x y : Line) (rest : List (List ℕ)) → at + 1 ≤ place → place < length xs → n ≡ place + 1 - at
-    → x ≡ get_or xs at x → y ≡ get_or xs place y → Asks command.Begin x.bytes.items → IsClosing y.bytes.items
+    → x ≡ get_or xs at x → y ≡ get_or xs place y → Asks command.Begin x.bytes.now → IsClosing y.bytes.now
     → IsUnclosed (texts (take (place - (at + 1)) (drop (at + 1) xs))) → IsCutBefore (texts (take n (drop at xs))) rest
 cut_closed xs at place n x y rest least most e isx isy begins closes h =
     let ys = drop (at + 1) xs in
     let many : n ≡ suc (place - (at + 1) + 1) = omega (arith, e, least) in
-    let whole : texts (take n (drop at xs)) ≡ x.bytes.items ∷ texts (take (place - (at + 1) + 1) ys) =
+    let whole : texts (take n (drop at xs)) ≡ x.bytes.now ∷ texts (take (place - (at + 1) + 1) ys) =
     ap (λ k. texts (take k (drop at xs))) many ∙ ap (λ l. texts (take (suc (place - (at + 1) + 1)) l)) (item_there xs at x (omega (arith, least, most)) isx) in
     inr record {
-      first = x.bytes.items;
+      first = x.bytes.now;
       inner = texts (take (place - (at + 1)) ys);
-      back = y.bytes.items ∷ [];
-      whole = whole ∙ ap (λ l. x.bytes.items ∷ l) (inner_more xs at place y least most isy);
+      back = y.bytes.now ∷ [];
+      whole = whole ∙ ap (λ l. x.bytes.now ∷ l) (inner_more xs at place y least most isy);
       begins = begins;
       unclosed = h;
-      closes = inl (y.bytes.items, refl, closes);
+      closes = inl (y.bytes.now, refl, closes);
     }
 
-pub cut_open : (xs : List Line) (at place : ℕ) (x : Line) → at < length xs → place ≡ length xs → x ≡ get_or xs at x → Asks command.Begin x.bytes.items
+pub cut_open : (xs : List Line) (at place : ℕ) (x : Line) → at < length xs → place ≡ length xs → x ≡ get_or xs at x → Asks command.Begin x.bytes.now
     → IsUnclosed (texts (take (place - (at + 1)) (drop (at + 1) xs)))
     → IsCutBefore (texts (take (length xs - at) (drop at xs))) (texts (drop (length xs) xs))
 cut_open xs at place x within e is begins h =
     let ys = drop (at + 1) xs in
     let many : length xs - at ≡ suc (place - (at + 1)) = omega (arith, e, within) in
     inr record {
-      first = x.bytes.items;
+      first = x.bytes.now;
       inner = texts (take (place - (at + 1)) ys);
       back = [];
       whole = ap (λ k. texts (take k (drop at xs))) many ∙ (ap (λ l. texts (take (suc (place - (at + 1))) l)) (item_there xs at x within is)
-          ∙ ap (λ l. x.bytes.items ∷ l) (sym (append-nil (texts (take (place - (at + 1)) ys)))));
+          ∙ ap (λ l. x.bytes.now ∷ l) (sym (append-nil (texts (take (place - (at + 1)) ys)))));
       begins = begins;
       unclosed = h;
       closes = inr (refl, ap texts (drop_all (length xs) xs (omega arith)));

@@ -1,6 +1,6 @@
 -- A run under guard, from the bytes of a dump and of a proposed script on. This project's own.
-use Rattle.std.specs.Prelude.{◌≡◌, ℕ, List, [], ◌∷◌, Option, Result, Ok, Err, IfSome}
-use Rattle.std.specs.Prelude.{if◌then◌else◌}
+use Rattle.std.specs.Prelude.{◌≡◌, ◌≤◌, ℕ, List, [], ◌∷◌, Option, Result, Ok, Err, IfSome}
+use Rattle.std.specs.Prelude.{if◌then◌else◌, length}
 use Rattle.std.specs.Io.KnownBytes.{Appends}
 use Rattle.irig_codes.specs.Format.{FormatView}
 use Rattle.irig_edit.specs.Opened.Openings.{IsOpened, IsUnopened}
@@ -13,8 +13,9 @@ use Rattle.irig_safety.specs.Terms.{TermsView}
 use Rattle.irig_guarding.specs.declared.product.GuardFault.{GuardFault}
 use Rattle.irig_guarding.specs.declared.product.GuardFault.TheVariants.{Dump, ReadFailed}
 use Rattle.irig_guarding.specs.declared.product.GuardFault.TheVariants.{OutOfMemory, PrintFailed}
-use Rattle.irig_guarding.specs.declared.product.GuardFault.TheVariants.{WriteFailed}
+use Rattle.irig_guarding.specs.declared.product.GuardFault.TheVariants.{ScriptTooLong, WriteFailed}
 use Rattle.irig_guarding.specs.{Fillings.Fills, Guarded.IsGuarded, Reading.original_of}
+use Rattle.irig_guarding.specs.ScriptLength.{IsShort, IsTooLong, script_limit}
 use Rattle.irig_guarding.specs.{Judged.is_judged_by, Trial.KeepsNone, Trials.IsTried}
 use Rattle.irig_guarding.specs.declared.product.Kept.{Kept}
 use Rattle.irig_guarding.specs.declared.product.Product.{Product}
@@ -32,6 +33,7 @@ product_texts product.Session m = saved_text (work_in m) ∷ []
 pub record Guards (terms : TermsView) (first : Machine) (script : Option (List ℕ)) : Type 0 where
   pub proposal : List ℕ
   pub whole : IfSome script (λ all. proposal ≡ all)
+  pub short : length proposal ≤ script_limit
   pub printed : List ℕ
   pub last : Machine
   pub guarded : IsGuarded terms first printed last
@@ -43,8 +45,8 @@ pub record Guards (terms : TermsView) (first : Machine) (script : Option (List �
 
 -- it was run, its result was printed, what is asked for was written of what the printed script
 -- leaves, if there was a frame to go by, and the status says whether all of it was kept; or memory
--- ran out, or a read failed, and nothing was printed or written; or the printing failed, and
--- nothing was written; or the writing failed
+-- ran out, a read failed or it is too long, and nothing was printed or written; or the printing
+-- failed, and nothing was written; or the writing failed
 abbrev pub RunsUnderGuard : TermsView → Product → Machine → Option (List ℕ) → Desk → Desk
     → Result Kept GuardFault → Type 0
 RunsUnderGuard terms asked first script from to (Ok kept) =
@@ -59,7 +61,9 @@ RunsUnderGuard terms asked first script from to (Err WriteFailed) =
     (run : Guards terms first script) × Appends from.out to.out run.printed
     × Puts from.shelf to.shelf [] 1
 RunsUnderGuard terms asked first script from to (Err ReadFailed) = to ≡ from
-RunsUnderGuard terms asked first script from to (Err OutOfMemory) = to ≡ from
+RunsUnderGuard terms asked first script from to (Err OutOfMemory) = IsShort script × (to ≡ from)
+RunsUnderGuard terms asked first script from to (Err ScriptTooLong) =
+    IsTooLong script × (to ≡ from)
 RunsUnderGuard terms asked first script from to (Err (Dump fault)) = ⊥
 
 -- the same on the session that is opened from a dump; or that was not opened, and nothing was done

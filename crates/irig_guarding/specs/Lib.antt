@@ -16,6 +16,7 @@ pub mod Reasons
 pub mod Repair
 pub mod RepairLines
 pub mod SafeBy
+pub mod ScriptLength
 pub mod Standing
 pub mod Stays
 pub mod Steps

@@ -74,4 +74,4 @@ pub record IsGroup (old : Machine) (lines : List (List ℕ)) (new : Machine) : T
 
 -- the bytes of lines
 abbrev pub texts : List Line → List (List ℕ)
-texts lines = map (λ line. line.bytes.items) lines
+texts lines = map (λ line. line.bytes.now) lines

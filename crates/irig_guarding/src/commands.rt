@@ -13,11 +13,11 @@ use irig_lines::{Command, Purpose, parse_line};
 const LINE_LIMIT: usize = 1000;
 
 /// What a line asks for; `None` if it is not valid or too long.
-pub fn command_of(line: &Line) -> Option<Command>
-    ensures { MatchOption result ((asked : SomeCommand) → Asks asked line.now.bytes.items → ⊥)
-        (λ asked. Asks asked line.now.bytes.items) }
+pub fn command_of(line: &Line<'_>) -> Option<Command>
+    ensures { MatchOption result ((asked : SomeCommand) → Asks asked line.now.bytes.now → ⊥)
+        (λ asked. Asks asked line.now.bytes.now) }
 {
-    command_in(line.bytes.as_slice())
+    command_in(line.bytes)
 }
 
 /// What the bytes of a line ask for; `None` if they are not valid, or more than `LINE_LIMIT`.
@@ -51,8 +51,8 @@ pub fn is_edit(command: &Command) -> bool
 }
 
 /// Whether a line is a `begin`, which opens a group.
-pub fn begins(line: &Line) -> bool
-    ensures { IsTrue result ↔ Asks command.Begin line.now.bytes.items }
+pub fn begins(line: &Line<'_>) -> bool
+    ensures { IsTrue result ↔ Asks command.Begin line.now.bytes.now }
 {
     match command_of(line) {
         Some(command) => is_begin(&command),
@@ -68,8 +68,8 @@ fn is_begin(command: &Command) -> bool
 }
 
 /// Whether a line is an `end`, which ends a group and keeps what it did.
-pub fn ends(line: &Line) -> bool
-    ensures { IsTrue result ↔ Asks command.End line.now.bytes.items }
+pub fn ends(line: &Line<'_>) -> bool
+    ensures { IsTrue result ↔ Asks command.End line.now.bytes.now }
 {
     match command_of(line) {
         Some(command) => is_end(&command),
@@ -85,8 +85,8 @@ fn is_end(command: &Command) -> bool
 }
 
 /// Whether a line closes a group: `end` ends it, `abort` gives it up.
-pub fn closes(line: &Line) -> bool
-    ensures { IsTrue result ↔ IsClosing line.now.bytes.items }
+pub fn closes(line: &Line<'_>) -> bool
+    ensures { IsTrue result ↔ IsClosing line.now.bytes.now }
 {
     match command_of(line) {
         Some(command) => is_closing(&command),
@@ -102,8 +102,8 @@ fn is_closing(command: &Command) -> bool
 }
 
 /// Whether a line is a comment, or blank: it asks for nothing.
-pub fn is_comment(line: &Line) -> bool
-    ensures { IsTrue result ↔ Asks command.Nothing line.now.bytes.items }
+pub fn is_comment(line: &Line<'_>) -> bool
+    ensures { IsTrue result ↔ Asks command.Nothing line.now.bytes.now }
 {
     match command_of(line) {
         Some(command) => is_nothing(&command),
@@ -120,7 +120,7 @@ fn is_nothing(command: &Command) -> bool
 
 /// Whether lines that are tried together are one line alone, a comment or a blank one: that is no
 /// repair, and is printed as it is.
-pub fn is_lone_comment(lines: &[Line]) -> bool
+pub fn is_lone_comment(lines: &[Line<'_>]) -> bool
     ensures { IsTrue result ↔ IsIdle (texts lines.now) }
 {
     match lines {

@@ -9,7 +9,7 @@ use crate::line::Line;
 /// The place, from 0, after the last line of the repair that begins at the place `at`. If the line
 /// there is a `begin`, the repair is a group: up to the first line that closes it (`closes`), or
 /// all lines that are left if none does.
-pub fn repair_end(lines: &[Line], at: usize) -> usize
+pub fn repair_end(lines: &[Line<'_>], at: usize) -> usize
     requires { at < length lines.now }
     ensures more { at < result }
     ensures within { result ≤ length lines.now }

@@ -79,7 +79,7 @@ fn guard_lines(
     opened: &Original,
     known_markers: &mut Vec<Option<usize>>,
     last: &mut Frames,
-    lines: &[Line],
+    lines: &[Line<'_>],
     out: &mut Vec<u8>,
 ) -> Result<Status, AllocError>
     requires closed { session.old.floor ≡ None }
@@ -131,7 +131,7 @@ fn guard_repair(
     opened: &Original,
     known_markers: &mut Vec<Option<usize>>,
     last: &mut Frames,
-    repair: &[Line],
+    repair: &[Line<'_>],
     out: &mut Vec<u8>,
 ) -> Result<Option<Reason>, AllocError>
     requires closed { session.old.floor ≡ None }
@@ -162,7 +162,7 @@ fn try_repair(
     opened: &Original,
     known_markers: &mut Vec<Option<usize>>,
     last: &mut Frames,
-    repair: &[Line],
+    repair: &[Line<'_>],
 ) -> Result<Option<Reason>, AllocError>
     requires closed { session.old.floor ≡ None }
     requires known { AreKnown opened.now session.old.state.pulses known_markers.old.items }

@@ -2,9 +2,9 @@
 
 ghost use Rattle.irig_script.specs.Obey.Run.{IsPlain};
 
-/// A line of a script, without the newline that ends it.
+/// A line of a script, without the newline that ends it: a part of the script's text.
 #[derive(Drop)]
-pub struct Line {
-    pub bytes: Vec<u8>,
-    ghost plain: { IsPlain bytes.items },
+pub struct Line<'a> {
+    pub bytes: &'a [u8],
+    ghost plain: { IsPlain bytes.now },
 }

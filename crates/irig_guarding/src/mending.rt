@@ -53,7 +53,7 @@ fn keep_group_if_safe(
     opened: &Original,
     known_markers: &mut Vec<Option<usize>>,
     before: &[Shown],
-    lines: &[Line],
+    lines: &[Line<'_>],
 ) -> Result<Frames, Reason>
     requires closed { session.old.floor ≡ None }
     requires known { AreKnown opened.now session.old.state.pulses known_markers.old.items }
@@ -138,15 +138,15 @@ fn keep_line_if_safe(
     opened: &Original,
     known_markers: &mut Vec<Option<usize>>,
     before: &[Shown],
-    line: &Line,
+    line: &Line<'_>,
 ) -> Result<Frames, Reason>
     requires closed { session.old.floor ≡ None }
     requires known { AreKnown opened.now session.old.state.pulses known_markers.old.items }
-    ensures made { OnOk result (Obeyed session.old line.now.bytes.items session.new) }
+    ensures made { OnOk result (Obeyed session.old line.now.bytes.now session.new) }
     ensures lists { IfOk result (λ frames. Lists session.new.state frames) }
     ensures stays { OnOk result (MayStay opened.now before.now session.new.state) }
-    ensures drops { (Asks command.Nothing line.now.bytes.items → ⊥)
-        → IfErr result (Drops opened.now before.now session.old (line.now.bytes.items ∷ [])) }
+    ensures drops { (Asks command.Nothing line.now.bytes.now → ⊥)
+        → IfErr result (Drops opened.now before.now session.old (line.now.bytes.now ∷ [])) }
     ensures undone { OnErr result (IsUndone session.old session.new) }
     ensures closed { session.new.floor ≡ None }
     ensures format { session.new.state.format ≡ session.old.state.format }
@@ -173,7 +173,7 @@ pub fn keep_if_safe(
     opened: &Original,
     known_markers: &mut Vec<Option<usize>>,
     before: &[Shown],
-    repair: &[Line],
+    repair: &[Line<'_>],
 ) -> Result<Frames, Reason>
     requires closed { session.old.floor ≡ None }
     requires known { AreKnown opened.now session.old.state.pulses known_markers.old.items }

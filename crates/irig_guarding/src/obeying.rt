@@ -49,10 +49,10 @@ pub fn obey_edit(
 fn obey_inner_line(
     session: &mut Session,
     known_markers: &mut Vec<Option<usize>>,
-    line: &Line,
+    line: &Line<'_>,
 ) -> Result<(), Reason>
-    ensures made { OnOk result (Obeyed session.old line.now.bytes.items session.new) }
-    ensures stops { IfErr result (StopsAt session.old line.now.bytes.items) }
+    ensures made { OnOk result (Obeyed session.old line.now.bytes.now session.new) }
+    ensures stops { IfErr result (StopsAt session.old line.now.bytes.now) }
     ensures beyond { IsBeyond session.old session.new }
     ensures known { (o : OriginalView) → AreKnown o session.old.state.pulses known_markers.old.items
         → OnOk result (AreKnown o session.new.state.pulses known_markers.new.items) }
@@ -91,7 +91,7 @@ fn obey_inner_command(
 pub fn obey_inner_lines(
     session: &mut Session,
     known_markers: &mut Vec<Option<usize>>,
-    lines: &[Line],
+    lines: &[Line<'_>],
 ) -> Result<(), Reason>
     ensures made { OnOk result (ObeyedAll session.old (texts lines.now) session.new) }
     ensures stops { IfErr result (StopsIn session.old (texts lines.now)) }

@@ -44,24 +44,24 @@ pub fn put_head(out: &mut Vec<u8>, fine: &[Shown]) -> Result<(), AllocError>
 }
 
 /// Prints lines as they are, each with a newline after it.
-fn put_lines(out: &mut Vec<u8>, lines: &[Line]) -> Result<(), AllocError>
+fn put_lines(out: &mut Vec<u8>, lines: &[Line<'_>]) -> Result<(), AllocError>
     ensures text { OnOk result (out.new.items ≡ out.old.items ++ unlines (texts lines.now)) }
     ensures plain { AllByRecursion IsPlain (texts lines.now) }
 {
     for line in lines {
-        put_line(out, line.bytes.as_slice())?;
+        put_line(out, line.bytes)?;
     }
     Ok(())
 }
 
 /// Prints a line as a comment, and a newline.
-fn put_comment(out: &mut Vec<u8>, line: &Line) -> Result<(), AllocError>
+fn put_comment(out: &mut Vec<u8>, line: &Line<'_>) -> Result<(), AllocError>
     ensures { OnOk result ((remark : List ℕ) × IsRemark remark
-        × IsRemarkOf line.now.bytes.items remark
+        × IsRemarkOf line.now.bytes.now remark
         × (out.new.items ≡ out.old.items ++ (remark ++ 10 ∷ []))) }
 {
     if is_comment(line) {
-        put_line(out, line.bytes.as_slice())
+        put_line(out, line.bytes)
     } else {
         put_as_comment(out, line)
     }
@@ -69,19 +69,19 @@ fn put_comment(out: &mut Vec<u8>, line: &Line) -> Result<(), AllocError>
 
 /// Prints a number sign, a space, the first 900 bytes of a line (all, if it has fewer) and a
 /// newline.
-fn put_as_comment(out: &mut Vec<u8>, line: &Line) -> Result<(), AllocError>
-    requires { Asks command.Nothing line.now.bytes.items → ⊥ }
+fn put_as_comment(out: &mut Vec<u8>, line: &Line<'_>) -> Result<(), AllocError>
+    requires { Asks command.Nothing line.now.bytes.now → ⊥ }
     ensures { OnOk result ((remark : List ℕ) × IsRemark remark
-        × IsRemarkOf line.now.bytes.items remark
+        × IsRemarkOf line.now.bytes.now remark
         × (out.new.items ≡ out.old.items ++ (remark ++ 10 ∷ []))) }
 {
-    let bytes = line.bytes.as_slice();
+    let bytes = line.bytes;
     out.extend_from_slice(b"# ")?;
     put_line(out, &bytes[..bytes.len().min(KEPT)])
 }
 
 /// Prints lines as comments, each as `put_comment` does.
-fn put_comments(out: &mut Vec<u8>, lines: &[Line]) -> Result<(), AllocError>
+fn put_comments(out: &mut Vec<u8>, lines: &[Line<'_>]) -> Result<(), AllocError>
     ensures { OnOk result ((remarks : List (List ℕ)) × AllByRecursion IsRemark remarks
         × AreRemarksOf (texts lines.now) remarks
         × (out.new.items ≡ out.old.items ++ unlines remarks)) }
@@ -95,7 +95,7 @@ fn put_comments(out: &mut Vec<u8>, lines: &[Line]) -> Result<(), AllocError>
 /// Prints a repair: its lines as they are if it was kept, else as `put_dropped` does.
 pub fn put_repair(
     out: &mut Vec<u8>,
-    repair: &[Line],
+    repair: &[Line<'_>],
     dropped: Option<Reason>,
 ) -> Result<(), AllocError>
     ensures { OnOk result (Shows (texts repair.now) dropped out.old.items out.new.items) }
@@ -107,7 +107,7 @@ pub fn put_repair(
 }
 
 /// Prints a repair that was dropped: the reason as a comment, and after that its lines as comments.
-fn put_dropped(out: &mut Vec<u8>, repair: &[Line], reason: Reason) -> Result<(), AllocError>
+fn put_dropped(out: &mut Vec<u8>, repair: &[Line<'_>], reason: Reason) -> Result<(), AllocError>
     ensures { OnOk result (Shows (texts repair.now) (Some reason) out.old.items out.new.items) }
 {
     put_reason(out, reason)?;

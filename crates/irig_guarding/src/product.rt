@@ -34,6 +34,9 @@ pub enum GuardFault {
     /// A read of the script failed, or memory ran out for it.
     #[error("S4 ReadFailed")]
     ReadFailed,
+    /// The script has more bytes than it may.
+    #[error("S7 ScriptTooLong")]
+    ScriptTooLong,
     /// Memory ran out for the frames, for what is printed, or for the text that is kept before.
     #[error("E11 OutOfMemory")]
     OutOfMemory,

@@ -1,11 +1,13 @@
 //! A run under guard on a dump, from the bytes that come in to those that go out.
 
-ghost use Rattle.std.specs.Prelude.{◌≡◌, ◌≤◌, ◌^◌, ◌==◌, ℕ, Err, List, None, Option, length, Ok};
-ghost use Rattle.std.specs.Prelude.{IfOk, IfSome, OnErr, OnOk, [], ◌∷◌, if◌then◌else◌};
+ghost use Rattle.std.specs.Prelude.{◌≡◌, ◌≤◌, ◌<◌, ◌⊎◌, ◌^◌, ◌==◌, ℕ, Err, List, None, Option, length, Ok};
+ghost use Rattle.std.specs.Prelude.{IfErr, IfOk, IfSome, OnErr, OnOk, [], ◌∷◌, if◌then◌else◌};
 ghost use Rattle.irig_edit.specs.Opened.Openings.{MayBeShort};
 ghost use Rattle.irig_vcd.specs.{Answer.bytes_of, Parts.dump_parts};
 ghost use Rattle.irig_vcd.specs.declared.fault.VcdFault.TheVariants.{OutOfMemory};
-ghost use Rattle.irig_guarding.specs.declared.product.GuardFault.TheVariants.{Dump};
+ghost use Rattle.irig_guarding.specs.declared.product.GuardFault.TheVariants.{Dump, ReadFailed};
+ghost use Rattle.irig_guarding.specs.declared.product.GuardFault.TheVariants.{ScriptTooLong};
+ghost use Rattle.irig_guarding.specs.ScriptLength.{IsRefusedIfTooLong, script_limit};
 ghost use Rattle.irig_guarding.specs.GuardedRun.{GuardsOnDump, RunsUnderGuard};
 ghost use Rattle.irig_guarding.specs.KeptText.{IsKept, texts_or};
 ghost use Rattle.irig_script.specs.Obey.Desk.{desk};
@@ -21,6 +23,9 @@ use irig_safety::Terms;
 use irig_text::{Bytes, Shelf, ShelfFault, Text};
 use std::alloc::{AllocError, Global};
 use std::io::{Read, Write};
+
+/// The most bytes of a script: 2^23.
+const SCRIPT_LIMIT: usize = 8_388_608;
 
 /// Opens a dump by what was read of it, its recording and the text of its journal (at most 2^28
 /// bytes, as a dump), and runs a proposed script on it under guard.
@@ -44,6 +49,7 @@ pub fn guard_on_parts<R: Read, W: Write, S: Shelf>(
     // Memory runs out for the session only if no fault of the dump comes before that.
     ensures memory { result ≡ Err (Dump OutOfMemory)
         → MayBeShort (Ok (recording, bytes_of journal)) }
+    ensures long { IsRefusedIfTooLong (R.remaining script.old) result }
     ensures label { (S.known shelf.new).label ≡ (S.known shelf.old).label }
     ensures since { S.since shelf.old shelf.new }
     ensures nothing { product ≡ Product.Nothing → shelf.new ≡ shelf.old }
@@ -75,9 +81,9 @@ pub fn guard_session<R: Read, W: Write, S: Shelf>(
     ensures since { S.since shelf.old shelf.new }
     ensures nothing { product ≡ Product.Nothing → shelf.new ≡ shelf.old }
 {
-    let mut bytes = Vec::new(alloc);
-    let Ok(_) = script.read_to_end(&mut bytes) else {
-        return Err(GuardFault::ReadFailed);
+    let bytes = match script_of(alloc, script) {
+        Ok(bytes) => bytes,
+        Err(fault) => return Err(fault),
     };
     let steps = session.steps_back();
     let Ok(before) = text_before(session, product) else {
@@ -94,6 +100,26 @@ pub fn guard_session<R: Read, W: Write, S: Shelf>(
         Ok(()) => Ok(kept),
         Err(_) => Err(GuardFault::WriteFailed),
     }
+}
+
+/// A script to its end, of which no more is read than shows that it is too long.
+fn script_of<R: Read>(alloc: Global, script: &mut R) -> Result<Vec<u8>, GuardFault>
+    ensures read { IfOk result (λ bytes. IfSome (R.remaining script.old)
+        (λ all. bytes.items ≡ all)) }
+    ensures short { IfOk result (λ bytes. length bytes.items ≤ script_limit) }
+    ensures long { result ≡ Err ScriptTooLong
+        → IfSome (R.remaining script.old) (λ all. script_limit < length all) }
+    ensures fault { IfErr result (λ fault. (fault ≡ ScriptTooLong) ⊎ (fault ≡ ReadFailed)) }
+{
+    let mut bytes = Vec::new(alloc);
+    let mut front = Read::take(&mut *script, SCRIPT_LIMIT as u64 + 1);
+    let Ok(_) = front.read_to_end(&mut bytes) else {
+        return Err(GuardFault::ReadFailed);
+    };
+    if bytes.len() > SCRIPT_LIMIT {
+        return Err(GuardFault::ScriptTooLong);
+    }
+    Ok(bytes)
 }
 
 /// The text of a session before repairs are tried, with its journal, if it is to be written and

@@ -1,6 +1,3 @@
-use Rattle.std.proofs.Common.{◌≡◌, ◌<◌, ◌-◌, ℕ, true}
-use Rattle.std.specs.Prelude.{IfSome}
-use Rattle.irig_safety.specs.{Placed.is_placed, Anchors.last_anchor, Anchors.next_anchor}
 use Rattle.irig_guarding.proofs.AnchorLemmas.{IsPlacedUpTo}
 use Rattle.irig_guarding.proofs.anchors.are_placed.Given as goal
 

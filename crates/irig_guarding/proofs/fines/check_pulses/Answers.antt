@@ -1,5 +1,5 @@
 use Rattle.irig_safety.specs.Original.{with_frames}
-use Rattle.irig_guarding.proofs.PulseLemmas.{rooted_stand, unrooted_fault, unrooted_stray}
+use Rattle.irig_guarding.proofs.PulseLemmas.{rooted_stand, unrooted_stray}
 use Rattle.irig_guarding.proofs.fines.check_pulses.Goals as goal
 
 pub returns-then-is_empty-clause-stand : goal.returns-then-is_empty-clause-stand

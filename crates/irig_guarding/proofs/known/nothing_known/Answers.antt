@@ -1,4 +1,4 @@
-use Rattle.irig_guarding.proofs.KnownLemmas.{none_known, none_more}
+use Rattle.irig_guarding.proofs.KnownLemmas.{none_known}
 use Rattle.irig_guarding.proofs.known.nothing_known.Goals as goal
 
 pub returns : goal.returns

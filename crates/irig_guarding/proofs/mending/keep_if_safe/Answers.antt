@@ -46,4 +46,4 @@ pub returns-in-len1-clause-drops : goal.returns-in-len1-clause-drops
 returns-in-len1-clause-drops c = λ other.
     let all = one_text c.args.repair.now c.line-item.result c.in-len1.len_at_least c.in-len1.len_below c.line-item.is in
     subst (λ (l : List (List ℕ)). IfErr c.keep_line_if_safe.result (Drops c.args.opened.now c.args.before.now c.args.session.now l)) (sym all)
-    (c.keep_line_if_safe.ensures.drops (λ asks. other (c.line-item.result.bytes.items, all, asks)))
+    (c.keep_line_if_safe.ensures.drops (λ asks. other (c.line-item.result.bytes.now, all, asks)))

@@ -11,7 +11,7 @@ returns-in-Err-clause-beyond c = beyond_beyond _ _ _ c.loop-line.invariant.1 c.o
 
 pub loop-line-preserved : goal.loop-line-preserved
 loop-line-preserved c = (
-  obeyed_more (λ line. line.bytes.items) c.args.lines.now _ _ _ _ _ _ c.loop-line-test.true c.line-item.is refl c.loop-line.invariant.0
+  obeyed_more (λ line. line.bytes.now) c.args.lines.now _ _ _ _ _ _ c.loop-line-test.true c.line-item.is refl c.loop-line.invariant.0
       c.in_default.ensures.made,
   beyond_beyond _ _ _ c.loop-line.invariant.1 c.obey_inner_line.ensures.beyond,
   λ o known. c.in_default.ensures.known o (c.loop-line.invariant.2 o known),

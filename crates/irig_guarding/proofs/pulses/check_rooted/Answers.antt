@@ -1,6 +1,6 @@
-use Rattle.std.proofs.Common.{◌≡◌, ◌∙◌, arith, false, sym, true}
+use Rattle.std.proofs.Common.{◌≡◌, ◌∙◌, false, sym, true}
 use Rattle.std.proofs.lemmas.Option.{slice_get-get_or}
-use Rattle.irig_guarding.proofs.PulseLemmas.{rooted_end, rooted_more, rooted_not}
+use Rattle.irig_guarding.proofs.PulseLemmas.{rooted_more, rooted_not}
 use Rattle.irig_guarding.proofs.pulses.check_rooted.Goals as goal
 
 pub returns-then-not-is_rooted-clause-unrooted : goal.returns-then-not-is_rooted-clause-unrooted

@@ -1,4 +1,4 @@
-use Rattle.std.proofs.Common.{◌≡◌, ◌∙◌, drop, get_or, sym, subst}
+use Rattle.std.proofs.Common.{◌∙◌, sym, subst}
 use Rattle.std.specs.Prelude.{◌↔◌, IsTrue}
 use Rattle.irig_safety.specs.Rises.{KeepsRises}
 use Rattle.irig_guarding.proofs.PulseLemmas.{first_marker}

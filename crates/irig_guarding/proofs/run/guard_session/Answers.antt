@@ -3,13 +3,13 @@ use Rattle.std.specs.Prelude.{if◌then◌else◌}
 use Rattle.irig_vcd.specs.Answer.{bytes_of}
 use Rattle.irig_text.specs.Shelved.{Puts}
 use Rattle.irig_guarding.specs.{GuardedRun.product_texts, KeptText.texts_or, Trials.IsTried}
-use Rattle.irig_guarding.proofs.{GuardLemmas.read_whole, KeptLemmas.run_of, KeptLemmas.written}
+use Rattle.irig_guarding.proofs.{KeptLemmas.run_of, KeptLemmas.written}
 use Rattle.irig_guarding.proofs.run.guard_session.Goals as goal
 
 pub returns-in_default-put_all-clause-ends : goal.returns-in_default-put_all-clause-ends
 returns-in_default-put_all-clause-ends g c = (
   run_of c.args.terms c.args.session.now c.guard.new.session _ _ _ _ _
-      (read_whole (g.R.Read.remaining c.args.script.now) c.new-bytes.result.items c.read_to_end.new.buf.items c.new-bytes.ensures.items c.in-Ok.ensures.bytes)
+      c.in-Ok.ensures.read c.in-Ok.ensures.short
       c.in-Ok-guard.ensures.guarded
       (subst (λ (l : List ℕ). IsTried c.args.terms c.args.session.now l c.in-Ok-guard.printed.items c.in-Ok-guard.kept.status c.guard.new.session)
       c.as_slice.ensures.value c.in-Ok-guard.ensures.tried)
@@ -29,8 +29,7 @@ returns-in-Ok-write_if_judged-clause-ends g c =
     (c.text_if_unmade-unmade.ensures ∙ ap (λ (n : ℕ). if length now.past == n then bytes_of before else None) c.steps_back-steps.ensures)
     ∙ written c.args.product first guarded.left now (bytes_of before) c.in-Ok-text_before.ensures guarded.same guarded.redo guarded.made in (
       run_of c.args.terms first now _ _ _ _ _
-          (read_whole (g.R.Read.remaining c.args.script.now) c.new-bytes.result.items c.read_to_end.new.buf.items c.new-bytes.ensures.items
-          c.in-Ok.ensures.bytes)
+          c.in-Ok.ensures.read c.in-Ok.ensures.short
           guarded
           (subst (λ (l : List ℕ). IsTried c.args.terms first l c.in-Ok-guard.printed.items c.in-Ok-guard.kept.status now)
           c.as_slice.ensures.value c.in-Ok-guard.ensures.tried)
@@ -46,7 +45,7 @@ returns-in-Ok-write_if_judged-clause-ends g c =
 pub returns-clause-ends : goal.returns-clause-ends
 returns-clause-ends g c = (
   run_of c.args.terms c.args.session.now c.guard.new.session _ _ _ _ _
-      (read_whole (g.R.Read.remaining c.args.script.now) c.new-bytes.result.items c.read_to_end.new.buf.items c.new-bytes.ensures.items c.in-Ok.ensures.bytes)
+      c.in-Ok.ensures.read c.in-Ok.ensures.short
       c.in-Ok-guard.ensures.guarded
       (subst (λ (l : List ℕ). IsTried c.args.terms c.args.session.now l c.in-Ok-guard.printed.items c.in-Ok-guard.kept.status c.guard.new.session)
       c.as_slice.ensures.value c.in-Ok-guard.ensures.tried)
