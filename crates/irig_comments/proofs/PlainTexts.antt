@@ -1,5 +1,5 @@
 -- Comments have no newline but the one that ends them.
-use Rattle.std.proofs.Common.{◌≡◌, ℕ, zero, suc, ◌-◌, ◌/◌, ◌%◌, ◌==◌, ◌++◌, ◌∙◌, Bool, true, false, not, List, [], ◌∷◌, Option, Some, None, length, codes}
+use Rattle.std.proofs.Common.{◌≡◌, ◌≤◌, ◌&&◌, ℕ, zero, suc, ◌-◌, ◌/◌, ◌%◌, ◌==◌, ◌++◌, ◌∙◌, Bool, true, false, not, List, [], ◌∷◌, Option, Some, None, length, codes}
 use Rattle.std.proofs.Common.{decimal, refl, sym, ap, inr, arith, replicate, append_assoc, length-append}
 use Rattle.std.specs.Prelude.{if◌then◌else◌}
 use Rattle.std.specs.Fmt.{digit_glyph, digits, digits_onto}
@@ -150,9 +150,11 @@ comment_is s b a =
 counted : (before after : List ℕ) (n : ℕ) → IsPlain before → IsPlain after → IsPlain (before ++ decimal n ++ after)
 counted before after n h k = both (before ++ decimal n) after (both before (decimal n) h (plain_digits 10 n)) k
 
--- the last line is one
-pub counts_are : (n : Counts) → IsComment (counts_text n)
-counts_are n =
+-- a line of the five numbers with a short end is one
+counted_line : (n : Counts) (last : List ℕ) → IsPlain last → length last ≤ 80
+    → IsComment (codes "# frames: " ++ decimal n.fine_before ++ codes " fine before, " ++ decimal n.fine_after ++ codes " fine after, " ++ decimal n.made
+    ++ codes " made, " ++ decimal n.lost ++ codes " lost, " ++ decimal n.changed ++ (last ++ 10 ∷ []))
+counted_line n last h few =
     let one = codes " frames: " ++ decimal n.fine_before ++ codes " fine before, " in
     let two = one ++ decimal n.fine_after ++ codes " fine after, " in
     let three = two ++ decimal n.made ++ codes " made, " in
@@ -162,13 +164,23 @@ counts_are n =
     let short_three = short_counted two (codes " made, ") n.made 164 7 short_two (omega arith) in
     let short_four = short_counted three (codes " lost, ") n.lost 235 7 short_three (omega arith) in
     inr (
-      four ++ decimal n.changed ++ codes " changed",
-      counted four (codes " changed") n.changed
+      four ++ decimal n.changed ++ last,
+      counted four last n.changed
           (counted three (codes " lost, ") n.lost
           (counted two (codes " made, ") n.made (counted one (codes " fine after, ") n.fine_after
           (counted (codes " frames: ") (codes " fine before, ") n.fine_before refl refl) refl) refl)
           refl)
-          refl,
-      omega (arith, short_counted four (codes " changed") n.changed 306 8 short_four (omega arith)),
-      ap (λ (l : List ℕ). 35 ∷ l) (sym (append_assoc (four ++ decimal n.changed) (codes " changed") (10 ∷ []))),
+          h,
+      omega (arith, short_counted four last n.changed 306 80 short_four few),
+      ap (λ (l : List ℕ). 35 ∷ l) (sym (append_assoc (four ++ decimal n.changed) last (10 ∷ []))),
     )
+
+-- the last line is one
+pub counts_are : (n : Counts) → IsComment (counts_text n)
+counts_are n = by_end ((n.fine_before == 0) && (n.fine_after == 0))
+  where
+    by_end : (none : Bool) → IsComment (codes "# frames: " ++ decimal n.fine_before ++ codes " fine before, " ++ decimal n.fine_after
+        ++ codes " fine after, " ++ decimal n.made ++ codes " made, " ++ decimal n.lost ++ codes " lost, " ++ decimal n.changed
+        ++ (if none then codes " changed; format or expression can be wrong, irig_what FILE says more\n" else codes " changed\n"))
+    by_end true = counted_line n (codes " changed; format or expression can be wrong, irig_what FILE says more") refl (omega arith)
+    by_end false = counted_line n (codes " changed") refl (omega arith)

@@ -1,6 +1,6 @@
 -- How many frames are fine, and how many came, went and changed. This project's own.
 use Rattle.std.specs.Prelude.{ℕ, ◌++◌, Bool, true, false, List, codes, count_by, decimal, Option, Some}
-use Rattle.std.specs.Prelude.{None}
+use Rattle.std.specs.Prelude.{◌==◌, ◌&&◌, if◌then◌else◌, None}
 use Rattle.irig_codes.specs.declared.note.Note.{Note}
 use Rattle.irig_codes.specs.declared.note.Note.TheVariants.{Fine}
 use Rattle.irig_index.specs.declared.record.Verdict.TheVariants.{Broken, Read}
@@ -48,9 +48,15 @@ counts_between b a = record {
   changed = count_by (λ s. is_both s.before s.after) (changes b a);
 }
 
+-- the end of the line: if no frame is fine, before or after, it says what to do next
+abbrev pub end_text : Counts → List ℕ
+end_text n = if (n.fine_before == 0) && (n.fine_after == 0)
+    then codes " changed; format or expression can be wrong, irig_what FILE says more\n"
+    else codes " changed\n"
+
 -- the line with the five numbers
 abbrev pub counts_text : Counts → List ℕ
 counts_text n =
     codes "# frames: " ++ decimal n.fine_before ++ codes " fine before, "
     ++ decimal n.fine_after ++ codes " fine after, " ++ decimal n.made ++ codes " made, "
-    ++ decimal n.lost ++ codes " lost, " ++ decimal n.changed ++ codes " changed\n"
+    ++ decimal n.lost ++ codes " lost, " ++ decimal n.changed ++ end_text n

@@ -1,7 +1,8 @@
 //! How many frames of two recordings are fine, and how many came, went and changed.
 
 ghost use Rattle.std.specs.Prelude.{◌≡◌, ◌<◌, ◌+◌, ◌++◌, ◌^◌, OnOk, cond, codes, decimal};
-ghost use Rattle.irig_comments.specs.Counts.{counts_between, counts_text, is_alone, is_both};
+ghost use Rattle.irig_comments.specs.Counts.{counts_between, counts_text, end_text};
+ghost use Rattle.irig_comments.specs.Counts.{is_alone, is_both};
 
 use crate::changes::Changes;
 use crate::framed::Framed;
@@ -75,7 +76,18 @@ pub(crate) fn put_counts(block: &mut Vec<u8>, counts: &Counts) -> Result<(), All
     put_count(block, b" fine after,", counts.made)?;
     put_count(block, b" made,", counts.lost)?;
     put_count(block, b" lost,", counts.changed)?;
-    block.extend_from_slice(b" changed\n")
+    block.extend_from_slice(end_of(counts))
+}
+
+/// The end of the last line; what to do next, if no frame is fine, before or after.
+fn end_of(counts: &Counts) -> &'static [u8]
+    ensures { result.now ≡ end_text counts.now }
+{
+    if counts.fine_before == 0 && counts.fine_after == 0 {
+        b" changed; format or expression can be wrong, irig_what FILE says more\n"
+    } else {
+        b" changed\n"
+    }
 }
 
 /// Writes a text, a space and a number in decimal; `put_number` writes the space.

@@ -1,15 +1,11 @@
 -- The statuses of the program as a process, after diff(1) of POSIX. This project's own.
-use Rattle.std.specs.Prelude.{ℕ, List, [], true, false, Option, codes}
+use Rattle.std.specs.Prelude.{ℕ, List, true, false, Option}
 use Rattle.clap.specs.Words.{Text}
 use Rattle.irig_diff.specs.declared.ending.Ending.TheVariants.{Usage, Unread, Compared}
 use Rattle.irig_diff.specs.declared.ending.Ending.TheVariants.{Unprinted}
 use Rattle.irig_diff.specs.{Ending.EndsBy, Help.help_text, Unread.Held}
 use Rattle.irig_diff.specs.{declared.ending.Ending.Ending}
 use Rattle.irig_files.specs.Tracks.{Unreadable}
-use Rattle.irig_files.specs.declared.track.TrackFault.{TrackFault}
-use Rattle.irig_files.specs.declared.track.TrackFault.TheVariants.{Dump}
-use Rattle.irig_vcd.specs.declared.fault.VcdFault.TheVariants.{NoSuchWire, ManyWires}
-use Rattle.irig_vcd.specs.declared.fault.VcdFault.TheVariants.{NoEndDefinitions, BadToken}
 use Rattle.irig_words.specs.Telling.{EndsWith, Explains}
 
 -- the status for how the program ended, and what is printed on the output of help: 0 if the tracks
@@ -20,14 +16,6 @@ Reports (Compared false) old new status = EndsWith 1 old new status
 Reports (Usage fault) old new status = Explains help_text 2 fault old new status
 Reports (Unread path fault) old new status = EndsWith 2 old new status
 Reports Unprinted old new status = EndsWith 2 old new status
-
--- what the program says after the fault of a track: what a user can do next
-abbrev pub what_next : TrackFault → List ℕ
-what_next (Dump NoSuchWire) = codes "; irig_what FILE says more"
-what_next (Dump ManyWires) = codes "; irig_what FILE says more"
-what_next (Dump NoEndDefinitions) = codes "; irig_what FILE says more"
-what_next (Dump (BadToken at)) = codes "; irig_what FILE says more"
-what_next fault = []
 
 -- the words were obeyed; of how that ended is the status of the process, and what came to the
 -- output of help

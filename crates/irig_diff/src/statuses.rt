@@ -2,12 +2,11 @@
 
 ghost use Rattle.std.specs.Prelude.{◌≡◌};
 ghost use Rattle.std.specs.Process.{exit_status};
-ghost use Rattle.irig_diff.specs.Statuses.{Reports, what_next};
+ghost use Rattle.irig_diff.specs.Statuses.{Reports};
 
 use crate::ending::Ending;
 use crate::help::program;
 use irig_files::TrackFault;
-use irig_vcd::VcdFault;
 use std::io::Write;
 use std::process::ExitCode;
 
@@ -29,22 +28,8 @@ pub fn report<R: Eprint, H: Write>(rt: &R, ending: &Ending<'_>, help: &mut H) ->
 fn tell_unread<R: Eprint>(rt: &R, path: &str, fault: &TrackFault) -> ExitCode
     ensures { exit_status result ≡ 2 }
 {
-    let next = what_next(fault);
-    let _ = eprintln!(rt; "irig_diff: {path}: {fault}{next}");
-    ExitCode::from(2)
-}
-
-/// What a user can do next about a fault, as the end of its line; nothing, if the fault says it.
-fn what_next<'a>(fault: &TrackFault) -> &'a str
-    ensures { result.now ≡ what_next fault.now }
-{
     match fault {
-        TrackFault::Dump(
-            VcdFault::NoSuchWire
-            | VcdFault::ManyWires
-            | VcdFault::NoEndDefinitions
-            | VcdFault::BadToken(_),
-        ) => "; irig_what FILE says more",
-        _ => "",
+        TrackFault::File(fault) => program().tell_of(rt, 2, path, fault),
+        TrackFault::Dump(fault) => program().tell_dump(rt, 2, path, *fault),
     }
 }

@@ -1,5 +1,5 @@
 -- The statuses of the program as a process. This project's own.
-use Rattle.std.specs.Prelude.{ℕ, List, [], Option, Result, Ok, Err, codes}
+use Rattle.std.specs.Prelude.{ℕ, List, Option, Result, Ok, Err, codes}
 use Rattle.irig_words.specs.Telling.{EndsWith, Explains}
 use Rattle.irig_files.specs.declared.dump_file.DumpFileFault.{DumpFileFault}
 use Rattle.irig_files.specs.declared.dump_file.DumpFileFault.TheVariants.{CannotBeRead, TooLong}
@@ -11,9 +11,6 @@ use Rattle.irig_script.specs.declared.obey.status.Status.{Status}
 use Rattle.irig_script.specs.declared.obey.status.Status.TheVariants.{AllAccepted, SomeRefused}
 use Rattle.irig_script.specs.declared.obey.dump_run.DumpRunFault.{DumpRunFault}
 use Rattle.irig_script.specs.declared.obey.dump_run.DumpRunFault.TheVariants.{Dump, Run}
-use Rattle.irig_vcd.specs.declared.fault.VcdFault.{VcdFault}
-use Rattle.irig_vcd.specs.declared.fault.VcdFault.TheVariants.{NoSuchWire, ManyWires}
-use Rattle.irig_vcd.specs.declared.fault.VcdFault.TheVariants.{NoEndDefinitions, BadToken}
 
 -- the status of the program for how a run ended
 abbrev pub status_number : Result Status DumpRunFault → ℕ
@@ -27,14 +24,6 @@ abbrev pub unread_text : DumpFileFault → List ℕ
 unread_text CannotBeRead = codes "cannot be read"
 unread_text TooLong = codes "too long"
 unread_text OutOfMemory = codes "V14 OutOfMemory"
-
--- what the program says after a fault of a dump: what a user can do next
-abbrev pub what_next : VcdFault → List ℕ
-what_next NoSuchWire = codes "; irig_what FILE says more"
-what_next ManyWires = codes "; irig_what FILE says more"
-what_next NoEndDefinitions = codes "; irig_what FILE says more"
-what_next (BadToken at) = codes "; irig_what FILE says more"
-what_next fault = []
 
 -- the status of the process for how the program ended, and what is printed on the output of help:
 -- help ends with 0, or with 4 if it was not printed

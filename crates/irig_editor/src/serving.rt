@@ -63,5 +63,5 @@ pub fn start<P: Eprint + AllocGlobal, C: FileSystem, R: Read, W: Write, N: Witne
         (H.contents help.old) (H.contents help.new) (exit_status result) }
 {
     let ending = obey_words(rt.alloc(), words, disk, script, screen);
-    report(rt, &ending, help)
+    report(rt, &ending, screen.is_none_fine(), help)
 }

@@ -2,18 +2,23 @@
 
 ghost use Rattle.std.specs.Prelude.{◌≡◌};
 ghost use Rattle.std.specs.Process.{exit_status};
-ghost use Rattle.irig_editor.specs.Statuses.{Reports, status_number, unread_text, what_next};
+ghost use Rattle.irig_editor.specs.Statuses.{Reports, status_number, unread_text};
 
 use crate::ending::Ending;
 use crate::help::program;
 use irig_files::DumpFileFault;
 use irig_script::{DumpRunFault, Status};
-use irig_vcd::VcdFault;
 use std::io::Write;
 use std::process::ExitCode;
 
-/// The status of the process for how the program ended.
-pub fn report<R: Eprint, H: Write>(rt: &R, ending: &Ending<'_>, help: &mut H) -> ExitCode
+/// The status of the process for how the program ended. `none_fine`: whether the last frames that
+/// were listed have none that is fine.
+pub fn report<R: Eprint, H: Write>(
+    rt: &R,
+    ending: &Ending<'_>,
+    none_fine: bool,
+    help: &mut H,
+) -> ExitCode
     ensures { Reports ending.now (H.contents help.old) (H.contents help.new) (exit_status result) }
 {
     match ending {
@@ -22,8 +27,19 @@ pub fn report<R: Eprint, H: Write>(rt: &R, ending: &Ending<'_>, help: &mut H) ->
         Ending::Over => program().tell(rt, 2, &"--out: is TRACK, which a part does not replace"),
         Ending::Unknown => program().tell(rt, 4, &"--out: cannot find out whether it is TRACK"),
         Ending::Saved(path) => program().tell_of(rt, 3, path, &"a saved session opens as a whole"),
-        Ending::Ran(path, outcome) => tell_ended(rt, path, *outcome),
+        Ending::Ran(path, outcome) => {
+            if none_fine {
+                tell_none_fine(rt, path);
+            }
+            tell_ended(rt, path, *outcome)
+        }
     }
+}
+
+/// Says what can be wrong if no frame is fine, and what to do next.
+fn tell_none_fine<R: Eprint>(rt: &R, path: &str) {
+    let what = "no frame is fine: format or expression can be wrong";
+    let _ = eprintln!(rt; "irig_ed: {path}: {what}; irig_what FILE says more");
 }
 
 /// What the program says of a track that it did not read, after the path.
@@ -44,29 +60,7 @@ fn tell_ended<R: Eprint>(rt: &R, path: &str, outcome: Result<Status, DumpRunFaul
     match outcome {
         Ok(Status::AllAccepted) => ExitCode::SUCCESS,
         Ok(Status::SomeRefused) => ExitCode::from(1),
-        Err(DumpRunFault::Dump(fault)) => tell_dump(rt, path, fault),
+        Err(DumpRunFault::Dump(fault)) => program().tell_dump(rt, 3, path, fault),
         Err(DumpRunFault::Run(fault)) => program().tell(rt, 4, &fault),
-    }
-}
-
-/// Says what is wrong with the dump at this path, and what to do next.
-fn tell_dump<R: Eprint>(rt: &R, path: &str, fault: VcdFault) -> ExitCode
-    ensures { exit_status result ≡ 3 }
-{
-    let next = what_next(fault);
-    let _ = eprintln!(rt; "irig_ed: {path}: {fault}{next}");
-    ExitCode::from(3)
-}
-
-/// What a user can do next about a fault, as the end of its line; nothing, if the fault says it.
-fn what_next<'a>(fault: VcdFault) -> &'a str
-    ensures { result.now ≡ what_next fault }
-{
-    match fault {
-        VcdFault::NoSuchWire
-        | VcdFault::ManyWires
-        | VcdFault::NoEndDefinitions
-        | VcdFault::BadToken(_) => "; irig_what FILE says more",
-        _ => "",
     }
 }

@@ -3,7 +3,6 @@
 ghost use Rattle.std.specs.Prelude.{◌≡◌};
 ghost use Rattle.std.specs.Process.{exit_status};
 ghost use Rattle.irig_guard.specs.Statuses.{Reports, kept_number, status_number, unread_text};
-ghost use Rattle.irig_guard.specs.Statuses.{what_next};
 
 use crate::chosen::OptionFault;
 use crate::ending::Ending;
@@ -12,7 +11,6 @@ use crate::other_fault::OtherFault;
 use irig_files::DumpFileFault;
 use irig_guarding::{GuardFault, Kept};
 use irig_script::Status;
-use irig_vcd::VcdFault;
 use std::io::Write;
 use std::process::ExitCode;
 
@@ -53,29 +51,7 @@ fn tell_unusable<R: Eprint>(rt: &R, path: &str, why: OtherFault) -> ExitCode
 {
     match why {
         OtherFault::File(fault) => tell_unread(rt, path, fault),
-        OtherFault::Dump(fault) => tell_dump(rt, path, fault),
-    }
-}
-
-/// Says what is wrong with the dump at this path, and what to do next.
-fn tell_dump<R: Eprint>(rt: &R, path: &str, fault: VcdFault) -> ExitCode
-    ensures { exit_status result ≡ 3 }
-{
-    let next = what_next(fault);
-    let _ = eprintln!(rt; "irig_guard: {path}: {fault}{next}");
-    ExitCode::from(3)
-}
-
-/// What a user can do next about a fault, as the end of its line; nothing, if the fault says it.
-fn what_next<'a>(fault: VcdFault) -> &'a str
-    ensures { result.now ≡ what_next fault }
-{
-    match fault {
-        VcdFault::NoSuchWire
-        | VcdFault::ManyWires
-        | VcdFault::NoEndDefinitions
-        | VcdFault::BadToken(_) => "; irig_what FILE says more",
-        _ => "",
+        OtherFault::Dump(fault) => program().tell_dump(rt, 3, path, fault),
     }
 }
 
@@ -96,7 +72,7 @@ fn tell_ended<R: Eprint>(rt: &R, path: &str, outcome: Result<Kept, GuardFault>) 
 {
     match outcome {
         Ok(kept) => tell_kept(rt, path, kept),
-        Err(GuardFault::Dump(fault)) => tell_dump(rt, path, fault),
+        Err(GuardFault::Dump(fault)) => program().tell_dump(rt, 3, path, fault),
         Err(fault) => program().tell(rt, 4, &fault),
     }
 }

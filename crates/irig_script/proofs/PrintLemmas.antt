@@ -2,3 +2,4 @@
 pub mod Pieces
 pub mod MarkLines
 pub mod FrameLines
+pub mod Fines

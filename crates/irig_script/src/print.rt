@@ -1,5 +1,6 @@
 //! What answers print.
 
+pub mod fine;
 pub mod info_line;
 pub mod listing;
 pub mod mark_lines;

@@ -4,6 +4,7 @@
 mod arguments;
 mod errors;
 mod formats;
+mod next;
 mod telling;
 mod usage;
 mod windows;

@@ -6,9 +6,11 @@ ghost use Rattle.irig_words.specs.Errors.{IsHelp, IsMistake};
 ghost use Rattle.irig_words.specs.Telling.{EndsWith, Explains, Helps};
 
 use crate::errors::not_text;
+use crate::next::what_next;
 use crate::usage::UsageFault;
 use clap::{Command, Error};
 use irig_print::put_all;
+use irig_vcd::VcdFault;
 use std::alloc::AllocError;
 use std::fmt::Display;
 use std::io;
@@ -48,6 +50,15 @@ impl<'a> Program<'a> {
     {
         let name = self.name;
         let _ = eprintln!(rt; "{name}: {path}: {why}");
+        ExitCode::from(status)
+    }
+
+    /// Says what is wrong with the dump at this path, and what to do next.
+    pub fn tell_dump<R: Eprint>(&self, rt: &R, status: u8, path: &str, fault: VcdFault) -> ExitCode
+        ensures { exit_status result ≡ status }
+    {
+        let (name, next) = (self.name, what_next(fault));
+        let _ = eprintln!(rt; "{name}: {path}: {fault}{next}");
         ExitCode::from(status)
     }
 
