@@ -55,10 +55,10 @@ class Moment(NamedTuple):
 
 
 class Law:
-    """The times of a recording: pulses, rise and fall in microseconds."""
+    """The times of a recording: pulses, rise and fall in microseconds; whether each frame that reads well is believed."""
 
-    def __init__(self, kind, expression, pulses):
-        self.kind, self.expression, self.pulses = kind, expression, pulses
+    def __init__(self, kind, expression, pulses, alone=False):
+        self.kind, self.expression, self.pulses, self.alone = kind, expression, pulses, alone
         self.interval, self.last = timecode.INTERVAL[kind], len(pulses) - 1
         self.rises = [rise for rise, _ in pulses]
         self.classes = [timecode.class_of(self.interval, fall - rise) for rise, fall in pulses]
@@ -123,8 +123,9 @@ class Law:
         return found
 
     def trusted(self):
-        """The frames of the rows that are not doubted, and whose story has more frames than one, or the only frame. The story of a row is
-        it and all rows near it that agree with it, the last frame of the one with the first of the other."""
+        """The frames of the rows that are not doubted, and whose story has more frames than one, or the only frame; all, if each is
+        believed alone. The story of a row is it and all rows near it that agree with it, the last frame of the one with the first of the
+        other."""
         rows = self.rows()
         stories = [{place} for place in range(len(rows))]
         for one in range(len(rows)):
@@ -134,7 +135,7 @@ class Law:
                     stories[other].add(one)
         sizes = [sum(len(rows[place]) for place in story) for story in stories]
         right = [place for place in range(len(rows)) if sizes[place] > 1 and not is_doubted(place, stories, sizes)]
-        return self.fine if len(self.fine) == 1 else [frame for place in right for frame in rows[place]]
+        return self.fine if self.alone or len(self.fine) == 1 else [frame for place in right for frame in rows[place]]
 
     # ---- the names of pulses
 
@@ -152,6 +153,10 @@ class Law:
     def is_in_row(self, first, last):
         """Whether each of some pulses is in step with the one before it, if both are there."""
         return all(self.in_step[number] for number in range(max(1, first), min(last, self.last) + 1))
+
+    def counts(self, place):
+        """Whether the two pulses before a pulse and the two after it are in step with it."""
+        return self.is_in_row(place - 1, place + 2)
 
     def names(self, frame, places, slack):
         """Of the pulses from a frame's marker on, or back from it: the names of those with which the two before and the two after are in
@@ -230,11 +235,11 @@ class Law:
 
     def fit(self, one, other, whole, after, before):
         """Whether no event has to be between two frames whose times are some elements apart: a pulse has the same name by both, or from
-        the last pulse with a name by the first to the first one with a name by the second it is as many elements as it has to be, to half
-        an interval and what the clock strays."""
+        the last pulse with a name by the first, up to the marker of the second, to the first one with a name by the second it is as many
+        elements as it has to be, to half an interval and what the clock strays."""
         if any(after.get(place) == whole + name for place, name in before.items()):
             return True
-        last, first = max(after), min(before)
+        last, first = max(place for place in after if place <= other.marker), min(before)
         many = whole + before[first] - after[last]
         within = Fraction(1, 2) + Fraction(2 * many * self.slack(one, other), self.span(one) + self.span(other))
         return many > 0 and self.is_long(one, other, self.rises[first] - self.rises[last], many, within)
@@ -309,43 +314,55 @@ class Law:
 
     def time_at(self, moment):
         """The time some microseconds, a fraction, after the start; None if there is none."""
-        later = bisect_right(self.risen, moment)
-        if not 0 < later < len(self.places):
-            return None
-        one, other = self.places[later - 1:later + 1]
-        many = self.elements_between(self.points[one], self.points[other])
-        if many is None:
-            return None
-        bound = self.bound(one, other, many, moment)
+        one, other = self.around(moment)
+        many = self.elements_between(one, other)
+        bound = self.bound(one, other, many) if many else None
         if bound is None or bound > WIDEST:
             return None
         share = (moment - self.rises[one]) * many * self.interval / (self.rises[other] - self.rises[one])
         time, rest = self.later(self.points[one], share), share - many * self.interval
         return Moment(time or self.later(self.points[other], rest), bound)
 
-    def elements_between(self, one, other):
-        """How many elements one point is after another, if no event was between them."""
-        stretches = self.quiet[one.frame:other.frame]
-        many = None if None in stretches else sum(stretches) + other.name - one.name
-        return many if many is not None and many > 0 else None
+    def around(self, moment):
+        """The last pulse with a time that has risen by then, and the next one with a time; None for one that is not there."""
+        later = bisect_right(self.risen, moment)
+        return self.places[later - 1] if later else None, self.places[later] if later < len(self.places) else None
 
-    def bound(self, one, other, many, moment):
+    def elements_between(self, one, other):
+        """How many elements one pulse is after another by their times; None if it is not, or one of them is not there."""
+        if one is None or other is None:
+            return None
+        (time, element), (later, following) = self.element_of(self.points[one]), self.element_of(self.points[other])
+        micros = 0 if time == later else times.passed(time, later)
+        if micros is None or micros < 0 or micros % PERIOD[self.kind]:
+            return None
+        many = 100 * (micros // PERIOD[self.kind]) + following - element
+        return many if many > 0 else None
+
+    def rates(self, one):
+        """How many intervals at least and at most pass in a microsecond by the two believed frames around a pulse."""
+        before = [frame for frame in self.believed if frame.marker <= one]
+        after = [frame for frame in self.believed if frame.marker > one]
+        if not before or not after:
+            return None
+        span, slack = self.span(before[-1]), self.slack(before[-1], after[0])
+        return (Fraction(99, span + slack), Fraction(99, span - slack)) if slack < span else None
+
+    def bound(self, one, other, many):
         """By how many intervals the line between two pulses can be off: the recorder lost what the distance shows at any place between
         them, and its clock strayed as far as it does."""
-        long, passed = self.rises[other] - self.rises[one], moment - self.rises[one]
+        long = self.rises[other] - self.rises[one]
         if other == one + 1 and many == 1 and timecode.in_step(self.interval, long):
             return Fraction(0)
-        before = [frame for frame in self.believed if frame.marker <= one]
-        after = [frame for frame in self.believed if frame.marker >= other]
-        if not before or not after or not self.doubtful.isdisjoint(range(one, other)):
+        rates = self.rates(one)
+        if any(self.counts(place) for place in range(one + 1, other)):
             return None
-        span, both = self.span(before[-1]), self.span(before[-1]) + self.span(after[0])
-        slack = self.slack(before[-1], after[0])
-        least, most = Fraction(198 * (span - slack), both * span), Fraction(198 * (span + slack), both * span)  # intervals in a microsecond
-        earliest = min(least * passed, many - most * (long - passed))
-        latest = max(most * passed, many - least * (long - passed))
-        line = Fraction(many * passed, long)
-        return max(latest - line, line - earliest)
+        return rates and max(rates[1] * long - many, many - rates[0] * long)
+
+    def is_event(self, one, other):
+        """Whether the clock shows, by more than half an interval, another number of elements between two pulses than their times."""
+        many, rates, long = self.elements_between(one, other), self.rates(one), self.rises[other] - self.rises[one]
+        return not many or rates is not None and (rates[1] * long + Fraction(1, 2) < many or many + Fraction(1, 2) < rates[0] * long)
 
     def later(self, point, micros):
         """The time some microseconds after a point, or before it, in its hour."""

@@ -22,6 +22,7 @@ class Row(NamedTuple):
     day: str = "061"
     expression: int = 2
     bounds: Sequence[Tuple[int, float, Fraction]] = ()  # how far the line over a hole can be off at a moment, in intervals
+    alone: bool = False  # whether each frame that reads well is believed
 
 
 def begin_of(kind: str) -> int:
@@ -96,7 +97,9 @@ def stuck(text: str, weight: int) -> str:
     return text[:-1] + str(int(text[-1]) & ~weight)
 
 
-STRAYS = Fraction(20, 990_000)  # the least that the clock of a frame of B strays, which shows nothing of it
+# the intervals of the code in one of the recorder's, at most: 99 last 990,000 microseconds, and each can be off by 20 ninety-ninths of one,
+# the least for a frame of B, which shows nothing of it
+FAST = Fraction(990_000, 990_000 - 20)
 
 THREE, FIVE = code("B", *seconds(56, 57, 58)), code("B", *seconds(54, 55, 56, 57, 58))
 LONG = code("B", *seconds(*range(30, 40)))
@@ -126,13 +129,11 @@ ROWS = [
     Row("a hole of a frame and a half", "B", without(LONG, *range(place(4, 10), place(5, 60))), [(4, 90.5, 0, "12:34:34.905000")]),
     # between element 7 and element 12, 405 intervals; the clock strays by the least
     Row("a hole of four frames", "B", without(LONG, *range(place(3, 10), place(7, 10))), [(5, 0.5, 0, "12:34:35.005000")],
-        bounds=[(5, 0.5, STRAYS * Fraction(423, 2)), (4, 0.5, STRAYS * Fraction(623, 2))]),
-    # 100 microseconds in it: element 57 is by the line 50 of 105 elements, in 1,050,100 microseconds, after element 7. It is 105 - 55.01
-    # after it if the wait was before it, and element 87 is 80 after it if that was after it; both as far as the clock strays.
+        bounds=[(5, 0.5, 405 * (FAST - 1)), (4, 0.5, 405 * (FAST - 1))]),
+    # 100 microseconds in it: 105 elements in 1,050,100 microseconds, from element 7 to element 12
     Row("a hole in which the recorder waits", "B", later(without(LONG, *range(place(3, 10), place(4, 10))), place(3, 10), 100),
         [(3, 57, 0, "12:34:33.569952")],
-        bounds=[(3, 57, Fraction(105 * 5000, 10501) - 105 + Fraction(5501, 100) * (1 + STRAYS)),
-                (3, 87, 80 * (1 + STRAYS) - Fraction(105 * 8000, 10501))]),
+        bounds=[(3, 57, Fraction(10501, 100) * FAST - 105), (3, 87, Fraction(10501, 100) * FAST - 105)]),
     Row("a hole in which the clock changes by 1 %", "B", without(slower(LONG, place(5, 0), 100), *range(place(3, 10), place(7, 10))),
         [(3, 6.5, 0, "12:34:33.065000"), (5, 0.5, 50, "-"), (7, 50.5, 25050, "12:34:37.505000")]),
     Row("a hole, and a clock that changes by 1 % near its end", "B",
@@ -192,6 +193,9 @@ ROWS = [
         [(frame, 50.5, 0, "-") for frame in range(24)]),
     Row("an only frame", "B", code("B", *seconds(50)), [(0, 50.5, 0, "12:34:50.505000")]),
     Row("two frames that do not agree", "B", code("B", *seconds(50, -51)), [(0, 50.5, 0, "-"), (1, 50.5, 0, "-")]),
+    # 15 for 12 hours are the elements 20 to 22: the last two of the first frame deny 15, the first two of the second one 12
+    Row("two frames that do not agree, and each is believed", "B", code("B", *seconds(50, -51)),
+        [(0, 19.5, 0, "12:34:50.195000"), (0, 20.5, 0, "-"), (1, 21.5, 0, "-"), (1, 22.5, 0, "15:34:51.225000")], alone=True),
 
     Row("two frames alone, 494 periods from each other", "B", code("B", "061T12:00:00") + later(code("B", "061T12:08:14"), 0, 494_000_000),
         [(0, 50.5, 0, "12:00:00.505000"), (494, 50.5, 0, "12:08:14.505000")]),

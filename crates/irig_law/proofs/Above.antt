@@ -1,5 +1,7 @@
 -- The frames that are believed are in order, and each has all its pulses and ends with its minute.
-use Rattle.std.proofs.Common.{◌≡◌, ◌<◌, ◌≤◌, ◌+◌, ℕ, zero, suc, Bool, true, false, List, [], ◌∷◌, length, slice_get, Option, Some, None, arith, refl, sym, ap, ◌∙◌}
+use Rattle.std.proofs.Common.{◌≡◌, ◌<◌, ◌≤◌, ◌+◌, ℕ, zero, suc, Bool, true, false, List, [], ◌∷◌, length, map, slice_get, Option, Some, None, arith, refl, sym, ap, ◌∙◌}
+use Rattle.std.specs.Prelude.{◌==◌, ◌||◌}
+use Rattle.std.proofs.lemmas.Bool.{cond_both}
 use Rattle.std.proofs.lemmas.Option.{none-some, same_Some, slice_get_within}
 use Rattle.irig_codes.specs.declared.note.Note.TheVariants.{Fine as NoteFine}
 use Rattle.irig_codes.specs.declared.format.Kind.TheVariants.{A, B, E, G}
@@ -58,10 +60,14 @@ module _ (ps : List Pulse) where
     kept-above right from (x ∷ xs) h =
         keep-above (right 0) from x (kept_from f century right 0 x xs) h.0 (kept-from-above right (x.frame.marker + 1) 0 x xs h.1)
 
-    believed-above : (from : ℕ) (xs : List Fine) → AboveFine from xs → Above from (believed_in f century xs)
-    believed-above from [] h = tt
-    believed-above from (x ∷ []) h = (h.0, tt)
-    believed-above from (x ∷ y ∷ xs) h = kept-above (is_right f century (chains_of f century (x ∷ y ∷ xs))) from (x ∷ y ∷ xs) h
+    all-above : (from : ℕ) (xs : List Fine) → AboveFine from xs → Above from (map (λ (x : Fine). x.frame) xs)
+    all-above from [] h = tt
+    all-above from (x ∷ xs) h = (h.0, all-above (x.frame.marker + 1) xs h.1)
+
+    believed-above : (alone : Bool) (from : ℕ) (xs : List Fine) → AboveFine from xs → Above from (believed_in f alone century xs)
+    believed-above alone from xs h = cond_both (alone || (length xs == 1)) (map (λ (x : Fine). x.frame) xs)
+        (kept f century (is_right f century (chains_of f century xs)) xs) (Above from)
+        (λ on. all-above from xs h) (λ off. kept-above (is_right f century (chains_of f century xs)) from xs h)
 
   -- what is so of frames one after another, is so by their places
   inside-of : (from : ℕ) (xs : List Frame) → Above from xs → (i : ℕ) (a : Frame) → slice_get xs i ≡ Some a
@@ -123,6 +129,6 @@ module _ (ps : List Pulse) where
         next : (r : Record) (rs : List Record) (base : ℕ) → AreFrom (r ∷ rs) base → AreFrom rs (base + 1)
         next r rs base are k = let e : base + suc k ≡ base + 1 + k = omega arith in are (suc k) ∙ ap (slice_get (frames f ps)) e
 
-    pub believed-are : (century : ℕ) → AreFrames ps (believed f century ps)
-    believed-are century = are-frames (believed f century ps) (believed-above f century 0 (fine_frames f ps)
+    pub believed-are : (alone : Bool) (century : ℕ) → AreFrames ps (believed f alone century ps)
+    believed-are alone century = are-frames (believed f alone century ps) (believed-above f century alone 0 (fine_frames f ps)
         (fine-above (frames f ps) 0 0 (λ k. (let e : k ≡ 0 + k = omega arith in ap (slice_get (frames f ps)) e)) (λ k r here. omega arith)))

@@ -1,9 +1,9 @@
 -- Lists that are made item by item: of the chains of frames, of the frames that read well, and of those that are kept.
-use Rattle.std.proofs.Common.{◌≡◌, inl, inr, ◌≤◌, ◌+◌, ◌++◌, ◌&&◌, ℕ, nat_lt, not, zero, suc, Bool, true, false, List, [], ◌∷◌, length, drop, slice_get, Some, arith, refl, sym, ap, ◌∙◌}
+use Rattle.std.proofs.Common.{◌≡◌, inl, inr, ◌≤◌, ◌+◌, ◌++◌, ◌&&◌, ℕ, nat_lt, not, zero, suc, Bool, true, false, List, [], ◌∷◌, length, drop, slice_get, Some, arith, refl, sym, ap, ◌∙◌, append_assoc}
 use Rattle.std.proofs.lemmas.{Bool.cases_Bool, Bool.ltb-true, Option.none-some, Option.same_Some}
 use Rattle.irig_codes.specs.Format.{FormatView}
-use Rattle.irig_law.specs.{Believed.believed_in, Believed.chain_after, Believed.is_true_at, Believed.kept, Believed.kept_from, Believed.with_frame}
-use Rattle.irig_law.specs.{Chains.chains_of, OfOne.is_doubted, OfOne.is_right, OfOne.size_of}
+use Rattle.irig_law.specs.{Believed.chain_after, Believed.is_true_at, Believed.kept, Believed.kept_from, Believed.with_frame}
+use Rattle.irig_law.specs.{OfOne.is_doubted, OfOne.is_right, OfOne.size_of}
 use Rattle.irig_law.specs.declared.{chain.Chain.Chain, fine.Fine.Fine, frame.Frame.Frame}
 
 pub drop-at : (A : Type 0) (xs : List A) (k : ℕ) (x : A) → slice_get xs k ≡ Some x → drop k xs ≡ x ∷ drop (k + 1) xs
@@ -28,17 +28,9 @@ pub with-rest : (right : Bool) (x : Fine) (rest : List Frame) → with_frame rig
 with-rest true x rest = refl
 with-rest false x rest = refl
 
--- a list of one frame, and one of more or of none
-pub only-one : (f : FormatView) (century : ℕ) (xs : List Fine) (x : Fine) → length xs ≡ 1 → slice_get xs 0 ≡ Some x → x.frame ∷ [] ≡ believed_in f century xs
-only-one f century [] x one at = absurd (none-some x at)
-only-one f century (y ∷ []) x one at = ap (λ (z : Fine). z.frame ∷ []) (sym (same_Some y x at))
-only-one f century (y ∷ z ∷ xs) x one at = absurd (omega (arith, one))
-
-pub not-one : (f : FormatView) (century : ℕ) (xs : List Fine) → (length xs ≡ 1 → ⊥)
-    → kept f century (is_right f century (chains_of f century xs)) xs ≡ believed_in f century xs
-not-one f century [] ne = refl
-not-one f century (y ∷ []) ne = absurd (ne (omega arith))
-not-one f century (y ∷ z ∷ xs) ne = refl
+-- a list with one more at its end
+pub with-last : (xs : List Frame) (x : Frame) (rest ys : List Frame) → ys ≡ xs ++ x ∷ [] → ys ++ rest ≡ xs ++ x ∷ rest
+with-last xs x rest ys is = ap (λ (l : List Frame). l ++ rest) is ∙ append_assoc xs (x ∷ []) rest
 
 -- what is kept by two tests that are the same everywhere
 module _ (f : FormatView) (century : ℕ) (one other : ℕ → Bool) (same : (i : ℕ) → one i ≡ other i) where

@@ -8,14 +8,14 @@ use Rattle.irig_recording.specs.declared.pulse.Pulse.{Pulse}
 use Rattle.irig_times.specs.OtherTimes.{time_elements}
 use Rattle.irig_law.specs.{Clocks.end_slack, Denials.seen_after, Denials.seen_before, Elements.element_after, Elements.element_before}
 use Rattle.irig_law.specs.EndPoints.{AreInStep, begin_of, end_of}
-use Rattle.irig_law.specs.Ends.{IsAfterLast, IsBeforeFirst, IsInStepAfter, IsInStepBefore, NoneDeniesAfter, NoneDeniesBefore}
+use Rattle.irig_law.specs.Ends.{IsAfterLast, IsBeforeFirst, IsInStepAfter, IsInStepBefore, IsSureAfter, IsSureBefore}
 use Rattle.irig_law.specs.Seens.{SeenAfter, SeenBefore}
 use Rattle.irig_law.specs.declared.{frame.Frame.Frame, names.Seen.Seen, point.Point.Point}
 use Rattle.irig_law.specs.declared.names.Seen.TheVariants.{Named}
 
 module _ (f : FormatView) (ps : List Pulse) (a : Frame) (after : List Seen) (steps : ℕ) (none : Bool)
     (seen : SeenAfter f ps a (end_slack ps a) after) (long : length after + a.marker ≡ length ps) (stepped : AreInStep after steps)
-    (denied : (none ≡ true) ↔ NoneDeniesAfter f ps a) where
+    (denied : (none ≡ true) ↔ IsSureAfter f ps a) where
   to-steps : (k : ℕ) → a.marker ≤ k → k < length ps → k - a.marker < steps → IsInStepAfter f ps a k
   to-steps k from to less j low high =
       same_Some (seen_after f ps a (end_slack ps a) j) (Named (j - a.marker))
@@ -44,7 +44,7 @@ module _ (f : FormatView) (ps : List Pulse) (a : Frame) (after : List Seen) (ste
               to = to;
               few = omega (arith, same);
               in_step = inl (omega (arith, same));
-              none = λ less. absurd (omega (arith, less, same));
+              sure = λ less. absurd (omega (arith, less, same));
               is = h;
             }
         | inr more ↦
@@ -58,7 +58,7 @@ module _ (f : FormatView) (ps : List Pulse) (a : Frame) (after : List Seen) (ste
                 | inl own ↦ inl (ltb-true k (a.marker + 100) own)
                 | inr steps-on ↦ inr (to-steps k from to (ltb-true (k - a.marker) steps steps-on))
               ];
-              none = λ less. denied.0 parts.0;
+              sure = λ less. denied.0 parts.0;
               is = h;
             }
       ])
@@ -78,7 +78,7 @@ module _ (f : FormatView) (ps : List Pulse) (a : Frame) (after : List Seen) (ste
         let from = h.from in
         let less : a.marker < k = elim (cases_lt a.marker k) [ inl low ↦ low | inr high ↦ absurd (other (omega (arith, high, from))) ] in
         or_right (k == a.marker) (rest-of k) (and_from none (nat_lt k (a.marker + 200) && (nat_lt k (a.marker + 100) || nat_lt (k - a.marker) steps))
-        (denied.1 (h.none less))
+        (denied.1 (h.sure less))
         (and_from (nat_lt k (a.marker + 200)) (nat_lt k (a.marker + 100) || nat_lt (k - a.marker) steps) (lt-ltb k (a.marker + 200) h.few)
         (own-or-step k x h)))
   ]
@@ -99,7 +99,7 @@ module _ (f : FormatView) (ps : List Pulse) (a : Frame) (after : List Seen) (ste
 
 module _ (f : FormatView) (ps : List Pulse) (b : Frame) (before : List Seen) (steps : ℕ) (none : Bool)
     (seen : SeenBefore f ps b (end_slack ps b) before) (long : length before ≡ b.marker + 1) (stepped : AreInStep before steps)
-    (denied : (none ≡ true) ↔ NoneDeniesBefore f ps b) where
+    (denied : (none ≡ true) ↔ IsSureBefore f ps b) where
   to-steps-back : (k : ℕ) → k < b.marker → b.marker - k < steps → IsInStepBefore f ps b k
   to-steps-back k to less j low high =
       same_Some (seen_before f ps b (end_slack ps b) j) (Named (b.marker - j))
@@ -138,7 +138,7 @@ module _ (f : FormatView) (ps : List Pulse) (b : Frame) (before : List Seen) (st
   to-first : (k : ℕ) (x : Point) → k < b.marker + time_elements f.kind → begin_of f b none steps k ≡ Some x → IsBeforeFirst f ps b k x
   to-first k x to is = cond_both (none && nat_le b.marker (k + 100)) (place-of k) None (λ o. o ≡ Some x → IsBeforeFirst f ps b k x)
       (λ on h. (let parts = and_parts none (nat_le b.marker (k + 100)) on in
-      record { to = to; few = leb-true b.marker (k + 100) parts.1; none = denied.0 parts.0; is = to-place k x h }))
+      record { to = to; few = leb-true b.marker (k + 100) parts.1; sure = denied.0 parts.0; is = to-place k x h }))
       (λ off h. absurd (none-some x h)) is
 
   from-place : (k : ℕ) (x : Point) → SaysFirst k x → place-of k ≡ Some x
@@ -151,7 +151,7 @@ module _ (f : FormatView) (ps : List Pulse) (b : Frame) (before : List Seen) (st
   from-first : (k : ℕ) (x : Point) → IsBeforeFirst f ps b k x → begin_of f b none steps k ≡ Some x
   from-first k x h =
       cond-true (none && nat_le b.marker (k + 100)) (place-of k) None
-      (and_from none (nat_le b.marker (k + 100)) (denied.1 h.none) (le-leb b.marker (k + 100) h.few))
+      (and_from none (nat_le b.marker (k + 100)) (denied.1 h.sure) (le-leb b.marker (k + 100) h.few))
       ∙ from-place k x h.is
 
   pub begin-says : (list : List (Option Point)) → length list ≡ b.marker + time_elements f.kind

@@ -3,14 +3,17 @@ mod AnyFrom
 mod Bridges
 mod ChainLists
 mod Denied
+mod Doubted
 mod Each
 mod EndsSaid
 mod Hops
 mod Joined
+mod LastNamed
 mod Lists
 mod Meeting
 mod Printed
 mod SaidPoints
+mod SeenAtEnds
 mod SeenLists
 mod SentNames
 mod StandardFacts

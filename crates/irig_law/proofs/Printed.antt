@@ -1,7 +1,7 @@
 -- What is printed is the true time.
 use Rattle.std.proofs.Common.{◌≡◌, ◌⊎◌, inl, inr, ◌<◌, ◌≤◌, ◌+◌, ◌-◌, ◌*◌, ◌/◌, ◌%◌, ◌==◌, ℕ, List, Bool, Option, Some, None, arith, refl, sym, ap, ◌∙◌, subst}
-use Rattle.std.specs.Prelude.{◌&&◌, nat_le, nat_lt, option_map, if◌then◌else◌}
-use Rattle.std.proofs.lemmas.Bool.{and_parts, cases_lt, cond_both, eqb-false, eqb-true, leb-false, leb-true, ltb-true}
+use Rattle.std.specs.Prelude.{nat_le, nat_lt, option_map, if◌then◌else◌}
+use Rattle.std.proofs.lemmas.Bool.{cases_lt, cond_both, eqb-false, eqb-true, leb-false, leb-true, ltb-true}
 use Rattle.std.proofs.lemmas.Option.{none-some, same_Some}
 use Rattle.irig_codes.specs.Format.{FormatView, frame_period_of, interval_of}
 use Rattle.irig_codes.specs.declared.{fields.Fields.Fields, format.Kind.Kind}
@@ -10,12 +10,13 @@ use Rattle.irig_recording.specs.declared.pulse.Pulse.{Pulse}
 use Rattle.irig_times.specs.{OtherTimes.time_elements, Parts.plus, Times.minute_micros, Times.time_in, declared.time.Time.Time}
 use Rattle.irig_law.specs.{Clocks.clock_of, Clocks.end_slack, Clocks.slack_of, Denials.seen_after, Denials.seen_before}
 use Rattle.irig_law.specs.Elements.{element_after, element_at, element_before}
-use Rattle.irig_law.specs.Hours.{at_hour, earlier_in_hour, hour_micros, later_in_hour}
+use Rattle.irig_law.specs.Hours.{at_hour, at_minute, earlier_by, earlier_in_hour, hour_micros, later_by, later_in_hour}
 use Rattle.irig_law.specs.{Law.IsMarker, Law.IsOnFirst, Law.IsOnSecond}
 use Rattle.irig_law.specs.Printed.{CountsOn, IsLater, printed, true_time}
 use Rattle.irig_law.specs.Rows.{rise_in, row_after, row_before, runs_in}
 use Rattle.irig_law.specs.Stories.{Quiet, SentAfter, SentBefore}
-use Rattle.irig_law.specs.Stretches.{are_alike, first_of, middle_element, named_after, named_before, quiet_of}
+use Rattle.irig_law.specs.{Quiet.is_doubtful, Quiet.name_of, Quiet.quiet_of}
+use Rattle.irig_law.specs.Stretches.{are_alike, first_of, middle_element, named_after, named_before}
 use Rattle.irig_law.specs.Theorems.{BeginTimesAreTrue, EndTimesAreTrue, EventfulTimesAreTrue, QuietTimesAreTrue}
 use Rattle.irig_law.specs.declared.{point.Point.Point, frame.Frame.Frame, names.Seen.Seen}
 use Rattle.irig_law.specs.declared.names.Seen.TheVariants.{Named, Astray, Unknown}
@@ -23,35 +24,52 @@ use Rattle.irig_law.proofs.SentNames.{names_are_sent}
 
 -- the time some periods later, or earlier, is the one that the sender showed
 module _ (period q : ℕ) (t u v : Time) (later : 0 < q → IsLater period q t u) where
-  abbrev there : Time
-  there = at_hour t (hour_micros t + q * period)
+  abbrev IsU : Option Time → Type 0
+  IsU o = o ≡ Some v → v ≡ u
 
-  abbrev is-there : Bool
-  is-there = nat_lt t.micros 60000000 && nat_lt (hour_micros t + q * period) 3600000000
+  abbrev IsT : Option Time → Type 0
+  IsT o = o ≡ Some v → v ≡ t
+
+  abbrev in-60 : Option Time
+  in-60 = if nat_lt (t.micros + q * period) 61000000 then Some (at_minute t (t.micros + q * period)) else None
+
+  abbrev in-hour : Option Time
+  in-hour = if nat_lt (hour_micros t + q * period) 3600000000 then Some (at_hour t (hour_micros t + q * period)) else None
+
+  abbrev back-hour : Option Time
+  back-hour = if nat_le (q * period) (hour_micros u) then Some (at_hour u (hour_micros u - q * period)) else None
+
+  later-by-is : 0 < q → IsU (later_by (q * period) t)
+  later-by-is some = cond_both (nat_le 60000000 t.micros) in-60 in-hour IsU
+      (λ on. cond_both (nat_lt (t.micros + q * period) 61000000) (Some (at_minute t (t.micros + q * period))) None IsU
+      (λ less is. sym (same_Some (at_minute t (t.micros + q * period)) v is)
+      ∙ (later some).on_in_60 (leb-true 60000000 t.micros on) (ltb-true (t.micros + q * period) 61000000 less))
+      (λ off is. absurd (none-some v is)))
+      (λ off. let less = leb-false 60000000 t.micros off in
+      cond_both (nat_lt (hour_micros t + q * period) 3600000000) (Some (at_hour t (hour_micros t + q * period))) None IsU
+      (λ on is. sym (same_Some (at_hour t (hour_micros t + q * period)) v is)
+      ∙ (later some).on (omega (arith, less)) (ltb-true (hour_micros t + q * period) 3600000000 on))
+      (λ off is. absurd (none-some v is)))
 
   later-is : (q ≡ 0 → t ≡ u) → later_in_hour period q t ≡ Some v → v ≡ u
-  later-is same = cond_both (q == 0) (Some t) (if is-there then Some there else None) (λ o. o ≡ Some v → v ≡ u)
+  later-is same = cond_both (q == 0) (Some t) (later_by (q * period) t) IsU
       (λ on is. sym (same_Some t v is) ∙ same (eqb-true q 0 on))
-      (λ off. let isnt = eqb-false q 0 off in let some : 0 < q = omega (arith, isnt) in
-      cond_both is-there (Some there) None (λ o. o ≡ Some v → v ≡ u)
-      (λ on is. let both = and_parts (nat_lt t.micros 60000000) (nat_lt (hour_micros t + q * period) 3600000000) on in
-      sym (same_Some there v is) ∙ (later some).on (ltb-true t.micros 60000000 both.0) (ltb-true (hour_micros t + q * period) 3600000000 both.1))
+      (λ off. let isnt = eqb-false q 0 off in later-by-is (omega (arith, isnt)))
+
+  earlier-by-is : 0 < q → IsT (earlier_by (q * period) u)
+  earlier-by-is some = cond_both (nat_le (60000000 + q * period) u.micros) (Some (at_minute u (u.micros - q * period))) back-hour IsT
+      (λ on is. sym (same_Some (at_minute u (u.micros - q * period)) v is)
+      ∙ (later some).back_in_60 (leb-true (60000000 + q * period) u.micros on))
+      (λ off. let less = leb-false (60000000 + q * period) u.micros off in
+      cond_both (nat_le (q * period) (hour_micros u)) (Some (at_hour u (hour_micros u - q * period))) None IsT
+      (λ on is. sym (same_Some (at_hour u (hour_micros u - q * period)) v is)
+      ∙ (later some).back less (leb-true (q * period) (hour_micros u) on))
       (λ off is. absurd (none-some v is)))
-
-  abbrev back-there : Time
-  back-there = at_hour u (hour_micros u - q * period)
-
-  abbrev is-back-there : Bool
-  is-back-there = nat_lt u.micros 60000000 && nat_le (q * period) (hour_micros u)
 
   earlier-is : (q ≡ 0 → u ≡ t) → earlier_in_hour period q u ≡ Some v → v ≡ t
-  earlier-is same = cond_both (q == 0) (Some u) (if is-back-there then Some back-there else None) (λ o. o ≡ Some v → v ≡ t)
+  earlier-is same = cond_both (q == 0) (Some u) (earlier_by (q * period) u) IsT
       (λ on is. sym (same_Some u v is) ∙ same (eqb-true q 0 on))
-      (λ off. let isnt = eqb-false q 0 off in let some : 0 < q = omega (arith, isnt) in
-      cond_both is-back-there (Some back-there) None (λ o. o ≡ Some v → v ≡ t)
-      (λ on is. let both = and_parts (nat_lt u.micros 60000000) (nat_le (q * period) (hour_micros u)) on in
-      sym (same_Some back-there v is) ∙ (later some).back (ltb-true u.micros 60000000 both.0) (leb-true (q * period) (hour_micros u) both.1))
-      (λ off is. absurd (none-some v is)))
+      (λ off. let isnt = eqb-false q 0 off in earlier-by-is (omega (arith, isnt)))
 
 mapped : (g : Time → Point) (o : Option Time) (x : Point) → option_map g o ≡ Some x → (t : Time) × (o ≡ Some t) × (g t ≡ x)
 mapped g None x is = absurd (none-some x is)
@@ -199,27 +217,32 @@ module _ (f : FormatView) (ps : List Pulse) (a b : Frame) (moment name : ℕ →
       (λ on is. by-one (first-is (named_after f a s) (named_before f b t) x is) less)
       (λ off is. absurd (none-some x is))
 
-  quiet-true : (n : ℕ) → IsTrue (quiet_of f a b (100 * n) k s t)
-  quiet-true n = cond_both (nat_lt k (a.marker + 100)) (element_after f a (k - a.marker))
-      (if nat_le b.marker k then element_after f b (k - b.marker) else middle_element f a b (100 * n) s t) IsTrue
+  abbrev firm-of : (n : ℕ) → (ℕ → Bool) → Option Point
+  firm-of n doubtful = if doubtful (name_of (100 * n) s t / 100) then None else middle_element f a b (100 * n) s t
+
+  quiet-true : (n : ℕ) (doubtful : ℕ → Bool) → IsTrue (quiet_of f a b (100 * n) doubtful k s t)
+  quiet-true n doubtful = cond_both (nat_lt k (a.marker + 100)) (element_after f a (k - a.marker))
+      (if nat_le b.marker k then element_after f b (k - b.marker) else firm-of n doubtful) IsTrue
       (λ on is. let less = ltb-true k (a.marker + 100) on in
       let place : a.marker + (k - a.marker) ≡ k = omega (arith, low) in
       let there = q.whole (k - a.marker) (omega (arith, less, low)) in
       let all = ap name place in
       let marker = q.shown.marker in
       own f sent a q.frame (name k) (k - a.marker) x q.shown.time (omega (arith, less, low)) (omega (arith, there, all, marker)) is)
-      (λ off. cond_both (nat_le b.marker k) (element_after f b (k - b.marker)) (middle_element f a b (100 * n) s t) IsTrue
+      (λ off. cond_both (nat_le b.marker k) (element_after f b (k - b.marker)) (firm-of n doubtful) IsTrue
       (λ on is. let ge = leb-true b.marker k on in
       let place : b.marker + (k - b.marker) ≡ k = omega (arith, ge) in
       let there = q.whole_after (k - b.marker) (omega (arith, high, ge)) in
       let all = ap name place in
       let marker = q.shown_after.marker in
       own f sent b q.frame_after (name k) (k - b.marker) x q.shown_after.time (omega (arith, high, ge)) (omega (arith, there, all, marker)) is)
-      (λ off. let less = leb-false b.marker k off in in-middle (100 * n) (omega (arith, less))))
+      (λ off. let less = leb-false b.marker k off in
+      cond_both (doubtful (name_of (100 * n) s t / 100)) None (middle_element f a b (100 * n) s t) IsTrue
+      (λ on is. absurd (none-some x is)) (λ off. in-middle (100 * n) (omega (arith, less)))))
 
 pub quiet_times : QuietTimesAreTrue
 quiet_times f century ps a b moment name sent q k x low high quiet =
-    quiet-true f ps a b moment name sent q k x low high quiet.periods quiet.is
+    quiet-true f ps a b moment name sent q k x low high quiet.periods (is_doubtful f ps a b quiet.periods) quiet.is
 
 pub eventful_times : EventfulTimesAreTrue
 eventful_times f century ps a b moment moment_after name sent s k x low few side = by-side side.side
@@ -268,7 +291,7 @@ eventful_times f century ps a b moment moment_after name sent s k x low few side
 pub end_times : EndTimesAreTrue
 end_times f ps a moment name sent q k x last = elim (cases_lt a.marker k) [
   | inl after-marker ↦
-      let none = last.none after-marker in
+      let none = last.sure after-marker in
       elim last.in_step [
         | inl less ↦
             let place : a.marker + (k - a.marker) ≡ k = omega (arith, after-marker) in
@@ -298,15 +321,15 @@ begin_times f ps b moment name sent q k x first = elim first.is [
       let few = first.to in
       let te = time-few f in
       let place : b.marker + (k - b.marker) ≡ k = omega (arith, ge) in
-      let there = q.whole first.none (k - b.marker) (omega (arith, few, ge, te)) in
+      let there = q.whole first.sure (k - b.marker) (omega (arith, few, ge, te)) in
       let all = ap name place in
       let marker = q.shown.marker in
       own f sent b q.frame (name k) (k - b.marker) x q.shown.time (omega (arith, few, ge, te)) (omega (arith, there, all, marker)) h.1
   | inr h ↦
       let less = h.0 in
       let few = first.few in
-      let is = sent-before f ps (end_slack ps b) b 100 moment name (q.sent_back first.none) k (b.marker - k) (omega (arith, less)) (omega (arith, few))
+      let is = sent-before f ps (end_slack ps b) b 100 moment name (q.sent_back first.sure) k (b.marker - k) (omega (arith, less)) (omega (arith, few))
       (h.1 k (omega arith) (omega (arith, less))) in
       let marker = q.shown.marker in
-      before f sent b q.frame (name k) (b.marker - k) x q.shown.time (q.counts first.none k few (omega (arith, less))) (omega (arith, is, marker)) h.2
+      before f sent b q.frame (name k) (b.marker - k) x q.shown.time (q.counts first.sure k few (omega (arith, less))) (omega (arith, is, marker)) h.2
 ]

@@ -45,6 +45,13 @@ earlier = refl
 pub first : earlier_in_hour 1000000 1 (at 0 0) ≡ None
 first = refl
 
+-- in a second 60 of A, 12:59:60.1, three periods later is 12:59:60.4, ten later is out of it; two earlier is 12:59:59.9
+pub later_in_60 : map (λ q. later_in_hour 100000 q (at 59 60100000)) (3 ∷ 10 ∷ []) ≡ Some (at 59 60400000) ∷ None ∷ []
+later_in_60 = refl
+
+pub earlier_in_60 : map (λ q. earlier_in_hour 100000 q (at 59 60100000)) (1 ∷ 2 ∷ []) ≡ Some (at 59 60000000) ∷ Some (at 59 59900000) ∷ []
+earlier_in_60 = refl
+
 -- a hole of ten intervals in which ten passed, by a clock that runs within a thousandth: in the middle of it the line is off by 5 units
 -- of 10,000
 pub bridge : off (record { least = 999; most = 1001 }) 10 10000 5 ≡ 5

@@ -7,10 +7,11 @@ use Rattle.irig_codes.specs.Format.{FormatView}
 use Rattle.irig_recording.specs.declared.pulse.Pulse.{Pulse}
 use Rattle.irig_law.specs.{Clocks.clock_of, Clocks.slack_of, Denials.denies_first, Denials.seen_after, Denials.seen_before, Elements.element_after}
 use Rattle.irig_law.specs.{Names.seen, Rows.rise_in, Rows.row_after, Rows.runs_in}
-use Rattle.irig_law.specs.Happened.{AreSides, HasHappened, IsPointBy, event_of, point_by}
+use Rattle.irig_law.specs.Happened.{AreDenials, AreSides, HasHappened, IsPointBy, event_of, is_doubtful_in, point_by}
 use Rattle.irig_law.specs.Law.{IsBetween, IsMarker, IsOnFirst, IsOnSecond, IsOnSide, IsQuiet}
 use Rattle.irig_law.specs.{Seens.SeenAfter, Seens.SeenBefore, Sides.IsAfter, Sides.IsBefore}
-use Rattle.irig_law.specs.Stretches.{by_second, first_denials, named_after, quiet_of, second_denials, stretch}
+use Rattle.irig_law.specs.{Quiet.is_doubtful, Quiet.quiet_element, Quiet.quiet_of}
+use Rattle.irig_law.specs.Stretches.{by_second, first_denials, named_after, second_denials, stretch}
 use Rattle.irig_law.specs.declared.{frame.Frame.Frame, happened.Happened.Happened, names.Seen.Seen, point.Point.Point, sides.Sides.Sides}
 use Rattle.irig_law.specs.declared.happened.Happened.TheVariants.{Event, Nothing}
 use Rattle.irig_law.proofs.Denied.{length-denials}
@@ -97,26 +98,34 @@ module _ (f : FormatView) (century : ℕ) (ps : List Pulse) (a b : Frame) (i : �
       from-event sides are later (inl h) = let at = h.0 in absurd (omega (arith, later, at))
       from-event sides are later (inr h) = from-other sides are h
 
-  to-says : (h : Happened) → HasHappened f century ps a b h → point_by f a b h k s t ≡ Some x → Says
-  to-says (Nothing n) fit is = inl (record { periods = n; fits = fit; is = is })
-  to-says (Event sides) are is = inr (record { event = are.0; side = to-side sides are.1 is })
+  module _ (denials : List ℕ) where
+    doubts : (n : ℕ) → AreDenials f ps a b (Nothing n) denials → is_doubtful_in denials ≡ is_doubtful f ps a b n
+    doubts n deny = λ i q. nat_lt 1 (deny q i)
 
-  from-says : (h : Happened) → HasHappened f century ps a b h → Says → point_by f a b h k s t ≡ Some x
-  from-says (Nothing n) fit (inl q) =
-      let same : q.periods ≡ n = same_Some q.periods n (sym q.fits.times ∙ fit.times) in
-      subst (λ m. quiet_of f a b (100 * m) k s t ≡ Some x) same q.is
-  from-says (Nothing n) fit (inr q) = absurd (q.event n fit)
-  from-says (Event sides) are (inl q) = absurd (are.0 q.periods q.fits)
-  from-says (Event sides) are (inr q) = from-side sides are.1 q.side
+    to-says : (h : Happened) → HasHappened f century ps a b h → AreDenials f ps a b h denials → point_by f a b h denials k s t ≡ Some x → Says
+    to-says (Nothing n) fit deny is =
+        inl (record { periods = n; fits = fit; is = subst (λ (d : ℕ → Bool). quiet_of f a b (100 * n) d k s t ≡ Some x) (doubts n deny) is })
+    to-says (Event sides) are deny is = inr (record { event = are.0; side = to-side sides are.1 is })
+
+    from-says : (h : Happened) → HasHappened f century ps a b h → AreDenials f ps a b h denials → Says → point_by f a b h denials k s t ≡ Some x
+    from-says (Nothing n) fit deny (inl q) =
+        let same : q.periods ≡ n = same_Some q.periods n (sym q.fits.times ∙ fit.times) in
+        subst (λ (d : ℕ → Bool). quiet_of f a b (100 * n) d k s t ≡ Some x) (sym (doubts n deny))
+        (subst (λ m. quiet_element f ps a b m k ≡ Some x) same q.is)
+    from-says (Nothing n) fit deny (inr q) = absurd (q.event n fit)
+    from-says (Event sides) are deny (inl q) = absurd (are.0 q.periods q.fits)
+    from-says (Event sides) are deny (inr q) = from-side sides are.1 q.side
 
 -- a list of what its two lists say is what the law says of a stretch
-module _ (f : FormatView) (century : ℕ) (ps : List Pulse) (a b : Frame) (h : Happened) (after before : List Seen) (list : List (Option Point))
-    (order : a.marker < b.marker) (happened : HasHappened f century ps a b h) (seen : SeenAfter f ps a (slack_of ps a b) after)
+module _ (f : FormatView) (century : ℕ) (ps : List Pulse) (a b : Frame) (h : Happened) (denials : List ℕ) (after before : List Seen)
+    (list : List (Option Point)) (deny : AreDenials f ps a b h denials) (order : a.marker < b.marker)
+    (happened : HasHappened f century ps a b h) (seen : SeenAfter f ps a (slack_of ps a b) after)
     (seen-too : SeenBefore f ps b (slack_of ps a b) before) (long : length after ≡ stretch f a b)
     (long-too : length before ≡ b.marker - a.marker + 1) (each : length list ≡ stretch f a b)
-    (are : (i : ℕ) (y : Option Point) → slice_get list i ≡ Some y → IsPointBy f a b h after before i y) (i : ℕ) (x : Point) where
+    (are : (i : ℕ) (y : Option Point) → slice_get list i ≡ Some y → IsPointBy f a b h denials after before i y) (i : ℕ) (x : Point) where
   abbrev by-lists : Option Point
-  by-lists = point_by f a b h (a.marker + i) (seen_after f ps a (slack_of ps a b) (a.marker + i)) (seen_before f ps b (slack_of ps a b) (a.marker + i))
+  by-lists = point_by f a b h denials (a.marker + i) (seen_after f ps a (slack_of ps a b) (a.marker + i))
+      (seen_before f ps b (slack_of ps a b) (a.marker + i))
 
   value : i < stretch f a b → (y : Option Point) → slice_get list i ≡ Some y → y ≡ by-lists
   value less y at =
@@ -134,10 +143,10 @@ module _ (f : FormatView) (century : ℕ) (ps : List Pulse) (a b : Frame) (h : H
         record {
           from = omega arith;
           to = omega (arith, less);
-          is = to-says f century ps a b i x less h happened (sym (value less (Some x) at));
+          is = to-says f century ps a b i x less denials h happened deny (sym (value less (Some x) at));
         }),
     λ between. (let to = between.to in
         let less : i < stretch f a b = omega (arith, to) in
         let there = slice_get-get_or list i None (omega (arith, less, each)) in
-        there ∙ ap Some (value less (get_or list i None) there ∙ from-says f century ps a b i x less h happened between.is)),
+        there ∙ ap Some (value less (get_or list i None) there ∙ from-says f century ps a b i x less denials h happened deny between.is)),
   )

@@ -1,7 +1,7 @@
 -- WHICH FRAMES ARE BELIEVED: those whose story is not mixed with another one that is as long. This
 -- project's own.
-use Rattle.std.specs.Prelude.{ℕ, ◌+◌, Bool, false, List, [], ◌∷◌, if◌then◌else◌}
-use Rattle.std.specs.Prelude.{Option, Some, None, slice_get}
+use Rattle.std.specs.Prelude.{ℕ, ◌+◌, ◌==◌, ◌||◌, Bool, false, List, [], ◌∷◌, if◌then◌else◌}
+use Rattle.std.specs.Prelude.{Option, Some, None, length, map, slice_get}
 use Rattle.irig_codes.specs.Format.{FormatView}
 use Rattle.irig_recording.specs.declared.pulse.Pulse.{Pulse}
 use Rattle.irig_law.specs.{Chains.agree, Chains.chains_of, Fine.fine_frames, OfOne.is_right}
@@ -36,12 +36,11 @@ kept f century right [] = []
 kept f century right (x ∷ xs) =
     with_frame (right 0) x (kept_from f century right 0 x xs)
 
--- those, or the only frame
-abbrev pub believed_in : FormatView → ℕ → List Fine → List Frame
-believed_in f century [] = []
-believed_in f century (x ∷ []) = x.frame ∷ []
-believed_in f century (x ∷ y ∷ xs) =
-    kept f century (is_right f century (chains_of f century (x ∷ y ∷ xs))) (x ∷ y ∷ xs)
+-- those; or each frame that reads well, if each is to be believed alone, or if there is only one
+abbrev pub believed_in : FormatView → Bool → ℕ → List Fine → List Frame
+believed_in f alone century xs =
+    if alone || (length xs == 1) then map (λ x. x.frame) xs
+    else kept f century (is_right f century (chains_of f century xs)) xs
 
-abbrev pub believed : FormatView → ℕ → List Pulse → List Frame
-believed f century ps = believed_in f century (fine_frames f ps)
+abbrev pub believed : FormatView → Bool → ℕ → List Pulse → List Frame
+believed f alone century ps = believed_in f alone century (fine_frames f ps)

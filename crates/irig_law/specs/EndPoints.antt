@@ -1,4 +1,4 @@
--- What a frame at an end of the recording says of a pulse, if it is known whether a pulse denies,
+-- What a frame at an end of the recording says of a pulse, if it is known whether the end is sure,
 -- and how many pulses are in step with the frame. This project's own.
 use Rattle.std.specs.Prelude.{◌≡◌, ℕ, ◌+◌, ◌-◌, ◌<◌, ◌&&◌, ◌||◌, ◌==◌, nat_le, nat_lt, Bool}
 use Rattle.std.specs.Prelude.{List, slice_get, Option, Some, None, if◌then◌else◌}

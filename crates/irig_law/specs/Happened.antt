@@ -1,12 +1,12 @@
 -- What happened in a stretch between two frames, and what its two lists say then of a pulse. This
 -- project's own.
 use Rattle.std.specs.Prelude.{◌≡◌, ◌↔◌, ℕ, ◌+◌, ◌-◌, ◌*◌, ◌<◌, ◌≤◌, nat_le, nat_lt, Bool, List}
-use Rattle.std.specs.Prelude.{length, slice_get, Option, Some, None, if◌then◌else◌}
+use Rattle.std.specs.Prelude.{get_or, length, slice_get, Option, Some, None, if◌then◌else◌}
 use Rattle.irig_codes.specs.Format.{FormatView}
 use Rattle.irig_recording.specs.declared.pulse.Pulse.{Pulse}
-use Rattle.irig_law.specs.{Elements.element_after, Fits.Fits, Sides.IsAfter, Sides.IsBefore}
-use Rattle.irig_law.specs.Stretches.{by_second}
-use Rattle.irig_law.specs.Stretches.{first_denials, named_after, quiet_of, second_denials}
+use Rattle.irig_law.specs.{Elements.element_after, Fits.Fits, Quiet.denying, Quiet.quiet_of}
+use Rattle.irig_law.specs.{Sides.IsAfter, Sides.IsBefore, Stretches.by_second}
+use Rattle.irig_law.specs.Stretches.{first_denials, named_after, second_denials}
 use Rattle.irig_law.specs.declared.frame.Frame.{Frame}
 use Rattle.irig_law.specs.declared.happened.Happened.{Happened}
 use Rattle.irig_law.specs.declared.happened.Happened.TheVariants.{Event, Nothing}
@@ -33,13 +33,24 @@ event_of f a b sides k s t =
     else (if nat_lt (k - a.marker) sides.until then named_after f a s
     else (if nat_le sides.from (k - a.marker) then by_second f b k t else None))
 
-abbrev pub point_by : FormatView → Frame → Frame → Happened → ℕ → Seen → Seen → Option Point
-point_by f a b (Nothing n) k s t = quiet_of f a b (100 * n) k s t
-point_by f a b (Event sides) k s t = event_of f a b sides k s t
+-- Without an event a list has of each frame of the code how many pulses deny it; a frame after its
+-- end is denied by none.
+abbrev pub AreDenials : FormatView → List Pulse → Frame → Frame → Happened → List ℕ → Type 0
+AreDenials f ps a b (Nothing n) denials = (q : ℕ) → get_or denials q 0 ≡ denying f ps a b n q
+AreDenials f ps a b (Event sides) denials = Unit {0}
+
+abbrev pub is_doubtful_in : List ℕ → ℕ → Bool
+is_doubtful_in denials q = nat_lt 1 (get_or denials q 0)
+
+abbrev pub point_by : FormatView → Frame → Frame → Happened → List ℕ → ℕ → Seen → Seen
+    → Option Point
+point_by f a b (Nothing n) denials k s t =
+    quiet_of f a b (100 * n) (is_doubtful_in denials) k s t
+point_by f a b (Event sides) denials k s t = event_of f a b sides k s t
 
 -- this is what is said of the pulse at a place of the stretch
-abbrev pub IsPointBy : FormatView → Frame → Frame → Happened → List Seen → List Seen → ℕ
+abbrev pub IsPointBy : FormatView → Frame → Frame → Happened → List ℕ → List Seen → List Seen → ℕ
     → Option Point → Type 0
-IsPointBy f a b h after before i y = (s t : Seen) → slice_get after i ≡ Some s
+IsPointBy f a b h denials after before i y = (s t : Seen) → slice_get after i ≡ Some s
     → slice_get before (b.marker - (a.marker + i)) ≡ Some t
-    → y ≡ point_by f a b h (a.marker + i) s t
+    → y ≡ point_by f a b h denials (a.marker + i) s t

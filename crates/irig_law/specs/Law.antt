@@ -5,9 +5,9 @@ use Rattle.irig_codes.specs.Format.{FormatView}
 use Rattle.irig_recording.specs.declared.pulse.Pulse.{Pulse}
 use Rattle.irig_times.specs.OtherTimes.{time_elements}
 use Rattle.irig_law.specs.{Clocks.slack_of, Denials.seen_after, Denials.seen_before}
-use Rattle.irig_law.specs.{Elements.element_after, Fits.Fits, Sides.IsAfter, Sides.IsBefore}
-use Rattle.irig_law.specs.Stretches.{by_second, first_denials, named_after, quiet_element}
-use Rattle.irig_law.specs.Stretches.{second_denials}
+use Rattle.irig_law.specs.{Elements.element_after, Fits.Fits, Quiet.quiet_element, Sides.IsAfter}
+use Rattle.irig_law.specs.{Sides.IsBefore, Stretches.by_second, Stretches.first_denials}
+use Rattle.irig_law.specs.{Stretches.named_after, Stretches.second_denials}
 use Rattle.irig_law.specs.declared.point.Point.{Point}
 use Rattle.irig_law.specs.declared.frame.Frame.{Frame}
 

@@ -20,6 +20,7 @@ pub mod Names
 pub mod OfOne
 pub mod Points
 pub mod Printed
+pub mod Quiet
 pub mod Rows
 pub mod Seens
 pub mod Sides
@@ -28,3 +29,4 @@ pub mod Stretches
 pub mod Theorem
 pub mod Theorems
 pub mod Truth
+pub mod Wanted

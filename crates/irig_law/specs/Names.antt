@@ -35,3 +35,8 @@ walk c rise runs (suc m) =
 abbrev pub seen : Clock → (ℕ → ℕ) → (ℕ → Bool) → ℕ → Seen
 seen c rise runs zero = Named 0
 seen c rise runs (suc m) = seen_at c rise runs (suc m) (walk c rise runs m)
+
+-- what is seen of a pulse by a test that more pulses pass; but only those that are no noise lead on
+abbrev pub seen_loosely : Clock → (ℕ → ℕ) → (ℕ → Bool) → (ℕ → Bool) → ℕ → Seen
+seen_loosely c rise runs half zero = Named 0
+seen_loosely c rise runs half (suc m) = seen_at c rise half (suc m) (walk c rise runs m)

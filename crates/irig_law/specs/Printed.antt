@@ -4,7 +4,7 @@ use Rattle.std.specs.Prelude.{◌≡◌, ℕ, ◌+◌, ◌-◌, ◌*◌, ◌/◌
 use Rattle.irig_codes.specs.Format.{FormatView, frame_period_of, interval_of}
 use Rattle.irig_codes.specs.declared.fields.Fields.{Fields}
 use Rattle.irig_times.specs.{Parts.plus, Times.time_in, declared.time.Time.Time}
-use Rattle.irig_law.specs.Hours.{at_hour, hour_micros}
+use Rattle.irig_law.specs.Hours.{at_hour, at_minute, hour_micros}
 use Rattle.irig_law.specs.declared.point.Point.{Point}
 use Rattle.irig_law.specs.declared.frame.Frame.{Frame}
 
@@ -18,12 +18,16 @@ true_time f sent n = time_in (sent (n / 100)) (n % 100 * interval_of f.kind)
 abbrev pub printed : FormatView → Point → Time
 printed f x = plus x.frame (x.element * interval_of f.kind)
 
--- one time is q periods after another, if it is in the same hour, by minutes of 60 seconds
+-- one time is q periods after another, if it is in the same hour, by minutes of 60 seconds, or in
+-- the same second 60
 pub record IsLater (period q : ℕ) (t u : Time) : Type 0 where
   pub on : t.micros < 60000000 → hour_micros t + q * period < 3600000000
       → at_hour t (hour_micros t + q * period) ≡ u
-  pub back : u.micros < 60000000 → q * period ≤ hour_micros u
+  pub on_in_60 : 60000000 ≤ t.micros → t.micros + q * period < 61000000
+      → at_minute t (t.micros + q * period) ≡ u
+  pub back : u.micros < 60000000 + q * period → q * period ≤ hour_micros u
       → at_hour u (hour_micros u - q * period) ≡ t
+  pub back_in_60 : 60000000 + q * period ≤ u.micros → at_minute u (u.micros - q * period) ≡ t
 
 -- The sender's clock counts on from one frame to another: of each two of these the later one shows
 -- the time as many periods later. Nothing has to be known of the end of an hour.

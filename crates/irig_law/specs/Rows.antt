@@ -37,3 +37,13 @@ is_clean f ps k =
 
 abbrev pub runs_in : FormatView → List Pulse → Row → ℕ → Bool
 runs_in f ps r k = is_clean f ps (place_in r k)
+
+-- the two before a pulse, or the two after it, are
+abbrev pub is_half_clean : FormatView → List Pulse → ℕ → Bool
+is_half_clean f ps k =
+    nat_lt k (length ps)
+    && ((is_joined f ps (k - 1) && is_joined f ps k)
+    || (is_joined f ps (k + 1) && is_joined f ps (k + 2)))
+
+abbrev pub half_in : FormatView → List Pulse → Row → ℕ → Bool
+half_in f ps r k = is_half_clean f ps (place_in r k)

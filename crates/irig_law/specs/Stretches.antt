@@ -1,13 +1,13 @@
 -- THE LAW OF TIME between two believed frames next to each other: which element each pulse is, if
 -- that is known. A stretch goes from the marker of the first frame to the last element of the
 -- second one that carries its time. This project's own.
-use Rattle.std.specs.Prelude.{ℕ, zero, suc, ◌+◌, ◌-◌, ◌*◌, ◌==◌, nat_le, nat_lt}
+use Rattle.std.specs.Prelude.{ℕ, zero, suc, ◌+◌, ◌-◌, ◌==◌, nat_le}
 use Rattle.std.specs.Prelude.{Bool, true, List, [], ◌∷◌, Option, Some, None, if◌then◌else◌}
 use Rattle.irig_codes.specs.Format.{FormatView}
 use Rattle.irig_recording.specs.declared.pulse.Pulse.{Pulse}
 use Rattle.irig_times.specs.OtherTimes.{time_elements}
 use Rattle.irig_law.specs.{Clocks.slack_of, Denials.denies_first, Denials.denies_second}
-use Rattle.irig_law.specs.{Denials.seen_after, Denials.seen_before, Elements.element_after}
+use Rattle.irig_law.specs.{Elements.element_after}
 use Rattle.irig_law.specs.{Elements.element_before}
 use Rattle.irig_law.specs.declared.point.Point.{Point}
 use Rattle.irig_law.specs.declared.frame.Frame.{Frame}
@@ -37,22 +37,11 @@ abbrev pub first_of : Option Point → Option Point → Option Point
 first_of None y = y
 first_of (Some x) y = Some x
 
+-- without an event, if the frames are `whole` elements apart: the element of one name, and no other
+-- one by the other name
 abbrev pub middle_element : FormatView → Frame → Frame → ℕ → Seen → Seen → Option Point
 middle_element f a b whole s t =
     if are_alike whole s t then first_of (named_after f a s) (named_before f b t) else None
-
--- Without an event: a frame's own pulses are its elements, and those between have their name by one
--- frame, and no other by the other one. The frames are `whole` elements apart.
-abbrev pub quiet_of : FormatView → Frame → Frame → ℕ → ℕ → Seen → Seen → Option Point
-quiet_of f a b whole k s t =
-    if nat_lt k (a.marker + 100) then element_after f a (k - a.marker)
-    else (if nat_le b.marker k then element_after f b (k - b.marker)
-    else middle_element f a b whole s t)
-
-abbrev pub quiet_element : FormatView → List Pulse → Frame → Frame → ℕ → ℕ → Option Point
-quiet_element f ps a b n k =
-    quiet_of f a b (100 * n) k (seen_after f ps a (slack_of ps a b) k)
-    (seen_before f ps b (slack_of ps a b) k)
 
 -- after an event: its name by the second frame, from the marker of that one on its element
 abbrev pub by_second : FormatView → Frame → ℕ → Seen → Option Point

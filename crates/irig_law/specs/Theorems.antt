@@ -4,7 +4,7 @@ use Rattle.std.specs.Prelude.{◌≡◌, ℕ, ◌+◌, ◌/◌, ◌<◌, ◌≤�
 use Rattle.irig_codes.specs.Format.{FormatView}
 use Rattle.irig_codes.specs.declared.fields.Fields.{Fields}
 use Rattle.irig_recording.specs.declared.pulse.Pulse.{Pulse}
-use Rattle.irig_law.specs.Ends.{IsAfterLast, IsBeforeFirst, NoneDeniesAfter, NoneDeniesBefore}
+use Rattle.irig_law.specs.Ends.{IsAfterLast, IsBeforeFirst, IsSureAfter, IsSureBefore}
 use Rattle.irig_law.specs.{Clocks.end_slack, Law.IsOnSide, Law.IsQuiet}
 use Rattle.irig_law.specs.Printed.{CountsOn, IsShown, printed, true_time}
 use Rattle.irig_law.specs.Stories.{Eventful, Quiet, SentAfter, SentBefore}
@@ -25,26 +25,26 @@ EventfulTimesAreTrue = (f : FormatView) (century : ℕ) (ps : List Pulse) (a b :
     → (k : ℕ) (x : Point) → a.marker ≤ k → k < b.marker + 100 → IsOnSide f century ps a b k x
     → printed f x ≡ true_time f sent (name k)
 
--- What happened after the last believed frame: it shows the time at its marker, and if no pulse
--- denies, no event was, as far as pulses are counted. The same before the first one.
+-- What happened after the last believed frame: it shows the time at its marker, and if the end is
+-- sure, no event was, as far as pulses are counted. The same before the first one.
 pub record QuietAfter (f : FormatView) (ps : List Pulse) (a : Frame) (moment name : ℕ → ℕ)
     (sent : ℕ → Fields) : Type 0 where
   pub frame : ℕ
   pub shown : IsShown sent name a frame
-  pub whole : NoneDeniesAfter f ps a → (e : ℕ) → e < 100
+  pub whole : IsSureAfter f ps a → (e : ℕ) → e < 100
       → name (a.marker + e) ≡ name a.marker + e
-  pub sent_on : NoneDeniesAfter f ps a → SentAfter f ps (end_slack ps a) a 199 moment name
-  pub counts : NoneDeniesAfter f ps a → (k : ℕ) → a.marker ≤ k → k < a.marker + 200
+  pub sent_on : IsSureAfter f ps a → SentAfter f ps (end_slack ps a) a 199 moment name
+  pub counts : IsSureAfter f ps a → (k : ℕ) → a.marker ≤ k → k < a.marker + 200
       → CountsOn f sent frame (name k / 100)
 
 pub record QuietBefore (f : FormatView) (ps : List Pulse) (b : Frame) (moment name : ℕ → ℕ)
     (sent : ℕ → Fields) : Type 0 where
   pub frame : ℕ
   pub shown : IsShown sent name b frame
-  pub whole : NoneDeniesBefore f ps b → (e : ℕ) → e < 100
+  pub whole : IsSureBefore f ps b → (e : ℕ) → e < 100
       → name (b.marker + e) ≡ name b.marker + e
-  pub sent_back : NoneDeniesBefore f ps b → SentBefore f ps (end_slack ps b) b 100 moment name
-  pub counts : NoneDeniesBefore f ps b → (k : ℕ) → b.marker ≤ k + 100 → k ≤ b.marker
+  pub sent_back : IsSureBefore f ps b → SentBefore f ps (end_slack ps b) b 100 moment name
+  pub counts : IsSureBefore f ps b → (k : ℕ) → b.marker ≤ k + 100 → k ≤ b.marker
       → CountsOn f sent (name k / 100) frame
 
 abbrev pub EndTimesAreTrue : Type 0

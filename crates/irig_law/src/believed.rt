@@ -1,6 +1,6 @@
 //! Which frames are believed.
 
-ghost use Rattle.std.specs.Prelude.{◌≡◌, ◌≤◌, ◌<◌, ◌+◌, ◌^◌, ◌++◌, ◌∷◌, [], ℕ, IfOk, OnOk, length};
+ghost use Rattle.std.specs.Prelude.{◌≡◌, ◌≤◌, ◌<◌, ◌+◌, ◌^◌, ◌++◌, [], ℕ, IfOk, OnOk, map};
 ghost use Rattle.irig_index.specs.Frames.{frames};
 ghost use Rattle.irig_law.specs.Believed.{believed, believed_in, chain_after, is_true_at, kept};
 ghost use Rattle.irig_law.specs.Believed.{with_frame};
@@ -16,25 +16,26 @@ use irig_times::FrameLens;
 use irig_track::Lens;
 use std::alloc::{AllocError, Global};
 
-/// The frames that `points_of` takes, in order.
+/// The frames that `points_of` takes, in order: with `alone` all that read well.
 pub fn believed_frames(
     alloc: Global,
     pulses: &mut Lens<'_>,
     records: &mut FrameLens<'_>,
     format: Format,
     century: u32,
+    alone: bool,
 ) -> Result<Vec<Frame>, AllocError>
     requires frames { records.old.records ≡ frames format pulses.old.track.pulses }
     requires century { century ≤ 99 }
     ensures believed { IfOk result (λ list.
-        list.items ≡ believed format century pulses.old.track.pulses) }
+        list.items ≡ believed format alone century pulses.old.track.pulses) }
     ensures frames { IfOk result (λ list.
         AreFrames pulses.old.track.pulses list.items) }
     ensures pulses { pulses.new.track ≡ pulses.old.track }
     ensures same { records.new.records ≡ records.old.records }
 {
     let fine = fine_frames(alloc, pulses, records, format)?;
-    let list = believed_in(alloc, format, century, &fine)?;
+    let list = believed_in(alloc, format, century, alone, &fine)?;
     Ok(list)
 }
 
@@ -43,26 +44,29 @@ fn believed_in(
     alloc: Global,
     format: Format,
     century: u32,
+    alone: bool,
     frames: &[Fine],
 ) -> Result<Vec<Frame>, AllocError>
     requires century { century ≤ 99 }
     ensures believed { IfOk result (λ list.
-        list.items ≡ believed_in format century frames.now) }
+        list.items ≡ believed_in format alone century frames.now) }
 {
-    if frames.len() == 1 {
-        return only(alloc, &fine_at(frames, 0));
+    if alone || frames.len() == 1 {
+        return all(alloc, frames);
     }
     let right = rights_of(alloc, format, century, frames)?;
     let list = kept(alloc, format, century, frames, &right)?;
     Ok(list)
 }
 
-/// A list of one frame.
-fn only(alloc: Global, frame: &Fine) -> Result<Vec<Frame>, AllocError>
-    ensures { IfOk result (λ list. list.items ≡ frame.now.frame ∷ []) }
+/// All of some frames.
+fn all(alloc: Global, frames: &[Fine]) -> Result<Vec<Frame>, AllocError>
+    ensures { IfOk result (λ list. list.items ≡ map (λ x. x.frame) frames.now) }
 {
     let mut list = Vec::new(alloc);
-    list.push(frame.frame)?;
+    for place in 0..frames.len() {
+        list.push(fine_at(frames, place).frame)?;
+    }
     Ok(list)
 }
 

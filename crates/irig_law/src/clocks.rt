@@ -60,6 +60,7 @@ fn strays_most(pulses: &mut Lens<'_>, frame: &Frame) -> u64
 pub fn slack_of(pulses: &mut Lens<'_>, from: &Frame, to: &Frame) -> u64
     requires { (from.now.marker < 2 ^ 31) × (to.now.marker < 2 ^ 31) }
     ensures slack { result ≡ slack_of pulses.old.track.pulses from.now to.now }
+    ensures low { result < 2 ^ 48 }
     ensures pulses { pulses.new.track ≡ pulses.old.track }
 {
     let one = strays_most(pulses, from);

@@ -5,29 +5,39 @@ ghost use Rattle.std.specs.Prelude.{◌≡◌, ◌<◌, ◌^◌, ℕ, IfSome, So
 ghost use Rattle.irig_index.specs.Marker.{is_position};
 ghost use Rattle.irig_law.specs.Denials.{denies_named, denies_seen, is_denied, is_unlike};
 ghost use Rattle.irig_law.specs.Denials.{is_unlike_in};
+ghost use Rattle.irig_law.specs.Wanted.{IsKept};
 ghost use Rattle.irig_times.specs.{OtherTimes.is_identifier, Torn.is_stray};
 
 use crate::frame::Frame;
 use crate::names::Seen;
 use crate::point::{Point, element_in};
-use irig_codes::{Element, Format, class, encode, fits};
-use irig_times::{contradicts, fields_at, pulse_at};
+use crate::wanted::{Wanted, wanted_at};
+use irig_codes::{Element, Format, class};
+use irig_times::{contradicts, pulse_at};
 use irig_track::Lens;
 
 /// Whether a pulse is of another class than an element: a position identifier or none, or of those
 /// that carry the time. False if it is not there.
-fn is_unlike(pulses: &mut Lens<'_>, format: Format, number: usize, point: &Point) -> bool
-    requires { (point.now.element < 100) × (point.now.frame.micros < 61000000) }
+fn is_unlike(
+    pulses: &mut Lens<'_>,
+    format: Format,
+    number: usize,
+    point: &Point,
+    kept: &mut Option<Wanted>,
+) -> bool
+    requires point { (point.now.element < 100) × (point.now.frame.micros < 61000000) }
+    requires kept { IsKept format kept.old }
     ensures unlike { result ≡ is_unlike format (slice_get pulses.old.track.pulses number)
         point.now }
+    ensures kept { IsKept format kept.new }
     ensures pulses { pulses.new.track ≡ pulses.old.track }
 {
-    let fields = fields_at(format, &point.frame);
-    if !fits(format, &fields) {
+    let wanted = wanted_at(format, &point.frame, kept);
+    *kept = Some(wanted);
+    if !wanted.fits {
         return false;
     }
-    let wanted = encode(format, &fields);
-    is_unlike_in(pulses, format, &wanted, number, point.element)
+    is_unlike_in(pulses, format, &wanted.elements, number, point.element)
 }
 
 /// Whether a pulse is of another class than an element of a frame that has these elements.
@@ -83,13 +93,21 @@ fn is_position(class: Option<Element>) -> bool
 }
 
 /// The same of an element, if it is known.
-pub fn is_denied(pulses: &mut Lens<'_>, format: Format, number: usize, point: Option<Point>) -> bool
-    requires { IfSome point (λ x. (x.element < 100) × (x.frame.micros < 61000000)) }
+pub fn is_denied(
+    pulses: &mut Lens<'_>,
+    format: Format,
+    number: usize,
+    point: Option<Point>,
+    kept: &mut Option<Wanted>,
+) -> bool
+    requires point { IfSome point (λ x. (x.element < 100) × (x.frame.micros < 61000000)) }
+    requires kept { IsKept format kept.old }
+    ensures kept { IsKept format kept.new }
     ensures denied { result ≡ is_denied format (slice_get pulses.old.track.pulses number) point }
     ensures pulses { pulses.new.track ≡ pulses.old.track }
 {
     match point {
-        Some(point) => is_unlike(pulses, format, number, &point),
+        Some(point) => is_unlike(pulses, format, number, &point, kept),
         None => false,
     }
 }
@@ -103,9 +121,12 @@ pub fn denies_seen(
     is_back: bool,
     number: usize,
     seen: Seen,
+    kept: &mut Option<Wanted>,
 ) -> bool
+    requires kept { IsKept format kept.old }
     requires minute { frame.now.time.micros < 61000000 }
     requires low { (e : ℕ) → seen ≡ Seen.Named e → e < 2 ^ 63 }
+    ensures kept { IsKept format kept.new }
     ensures denies { result ≡ denies_seen format frame.now is_back
         (slice_get pulses.old.track.pulses number) seen }
     ensures pulses { pulses.new.track ≡ pulses.old.track }
@@ -113,7 +134,7 @@ pub fn denies_seen(
     match seen {
         Seen::Named(name) => {
             let point = element_in(format, frame, is_back, name);
-            is_denied(pulses, format, number, point)
+            is_denied(pulses, format, number, point, kept)
         }
         Seen::Astray => true,
         Seen::Unknown => false,
@@ -128,9 +149,12 @@ pub fn denies_named(
     is_back: bool,
     number: usize,
     seen: Seen,
+    kept: &mut Option<Wanted>,
 ) -> bool
+    requires kept { IsKept format kept.old }
     requires minute { frame.now.time.micros < 61000000 }
     requires low { (e : ℕ) → seen ≡ Seen.Named e → e < 2 ^ 63 }
+    ensures kept { IsKept format kept.new }
     ensures denies { result ≡ denies_named format frame.now is_back
         (slice_get pulses.old.track.pulses number) seen }
     ensures pulses { pulses.new.track ≡ pulses.old.track }
@@ -138,7 +162,7 @@ pub fn denies_named(
     match seen {
         Seen::Named(name) => {
             let point = element_in(format, frame, is_back, name);
-            is_denied(pulses, format, number, point)
+            is_denied(pulses, format, number, point, kept)
         }
         Seen::Astray => false,
         Seen::Unknown => false,

@@ -4,63 +4,88 @@
 //! in their types.
 
 ghost use Rattle.std.specs.Prelude.{◌≡◌, ◌↔◌, ◌<◌, ◌≤◌, ◌+◌, ◌-◌, ◌^◌, ℕ, IfOk, IsTrue, Some, length};
-ghost use Rattle.std.specs.Prelude.{Option, slice_get};
-ghost use Rattle.irig_law.specs.Clocks.{end_slack};
-ghost use Rattle.irig_law.specs.EndPoints.{begin_of, end_of};
-ghost use Rattle.irig_law.specs.Ends.{IsAfterLast, IsBeforeFirst, NoneDeniesAfter, NoneDeniesBefore};
-ghost use Rattle.irig_law.specs.Seens.{SeenAfter, SeenBefore};
+ghost use Rattle.std.specs.Prelude.{Option, false, if◌then◌else◌, is_some, slice_get};
+ghost use Rattle.irig_law.specs.{Denials.denies_named, EndPoints.begin_of, EndPoints.end_of};
+ghost use Rattle.irig_law.specs.Ends.{IsAfterLast, IsBeforeFirst, IsSure, seen_at_end};
+ghost use Rattle.irig_law.specs.Rows.{place_in};
 ghost use Rattle.irig_times.specs.OtherTimes.{time_elements};
 
-use crate::clocks::end_slack;
+use crate::clocks::{clock_of, end_slack};
 use crate::denials::denies_named;
 use crate::frame::Frame;
-use crate::names::Seen;
-use crate::point::{Point, element_after, element_before};
-use crate::seens::{in_step, seen_after, seen_at, seen_before};
+use crate::names::{Seen, Walk, judged_at, moved};
+use crate::point::{Point, element_after, element_before, element_in};
+use crate::row::{Row, half_in, place_in, runs_in};
+use crate::seens::{in_step, seen_after, seen_before};
 use irig_codes::Format;
 use irig_times::time_elements;
 use irig_track::Lens;
 use std::alloc::{AllocError, Global};
 
-/// Whether no pulse after the last frame's marker denies its name. The last pulse of the track is
-/// not asked.
-fn none_denies_after(pulses: &mut Lens<'_>, format: Format, frame: &Frame, after: &[Seen]) -> bool
+/// Whether an end is sure up to some pulse: the frame of the code next to the believed one is in
+/// the same hour, and no pulse denies its name.
+fn is_sure(pulses: &mut Lens<'_>, format: Format, frame: &Frame, row: &Row, many: usize) -> bool
     requires frame { (frame.now.marker < 2 ^ 26) × (frame.now.time.micros < 61000000) }
-    requires after { SeenAfter format pulses.old.track.pulses frame.now
-        (end_slack pulses.old.track.pulses frame.now) after.now }
-    requires long { length after.now + frame.now.marker ≡ length pulses.old.track.pulses }
-    ensures none { IsTrue result ↔ NoneDeniesAfter format pulses.old.track.pulses frame.now }
+    requires row { (row.now.marker < 2 ^ 26) × (many ≤ 2 ^ 26) }
+    ensures sure { IsTrue result
+        ↔ IsSure format pulses.old.track.pulses frame.now row.now many }
     ensures pulses { pulses.new.track ≡ pulses.old.track }
 {
-    let end = after.len().saturating_sub(1);
-    for place in 1..end {
-        let seen = seen_at(after, place);
-        if denies_named(pulses, format, frame, false, frame.marker + place, seen) {
+    let hour = is_known(element_in(format, frame, row.is_back, 100));
+    let none = none_denies(pulses, format, frame, row, many);
+    hour && none
+}
+
+/// Whether an element is known.
+fn is_known(point: Option<Point>) -> bool
+    ensures { result ≡ is_some point }
+{
+    match point {
+        Some(_) => true,
+        None => false,
+    }
+}
+
+/// Whether no pulse of a row denies its name, up to some pulse.
+fn none_denies(pulses: &mut Lens<'_>, format: Format, frame: &Frame, row: &Row, many: usize) -> bool
+    requires frame { (frame.now.marker < 2 ^ 26) × (frame.now.time.micros < 61000000) }
+    requires row { (row.now.marker < 2 ^ 26) × (many ≤ 2 ^ 26) }
+    ensures none { IsTrue result ↔ ((k : ℕ) → 0 < k → k < many
+        → denies_named format frame.now row.now.is_back
+        (slice_get pulses.old.track.pulses (place_in row.now k))
+        (seen_at_end format pulses.old.track.pulses frame.now row.now k) ≡ false) }
+    ensures pulses { pulses.new.track ≡ pulses.old.track }
+{
+    let slack = end_slack(pulses, frame);
+    let clock = clock_of(pulses, format, frame, slack);
+    let mut walk = Walk {
+        last: 0,
+        element: 0,
+    };
+    let mut kept = None;
+    for place in 1..many {
+        let judged = judged_at(pulses, row, &clock, walk, place);
+        let half = half_in(pulses, format, row, place);
+        let number = place_in(row, place);
+        let seen = only_if(half, judged);
+        if denies_named(pulses, format, frame, row.is_back, number, seen, &mut kept) {
             return false;
         }
+        let runs = runs_in(pulses, format, row, place);
+        let firm = only_if(runs, judged);
+        walk = moved(walk, place, firm);
     }
     true
 }
 
-/// Whether no pulse before the first frame's marker denies its name.
-fn none_denies_before(pulses: &mut Lens<'_>, format: Format, frame: &Frame, before: &[Seen]) -> bool
-    requires frame { (frame.now.marker < 2 ^ 26) × (frame.now.time.micros < 61000000) }
-    requires before { SeenBefore format pulses.old.track.pulses frame.now
-        (end_slack pulses.old.track.pulses frame.now) before.now }
-    requires long { length before.now ≡ frame.now.marker + 1 }
-    ensures none { IsTrue result ↔ NoneDeniesBefore format pulses.old.track.pulses frame.now }
-    ensures pulses { pulses.new.track ≡ pulses.old.track }
+/// What is seen of a pulse, if it passes a test.
+fn only_if(test: bool, seen: Seen) -> Seen
+    ensures { result ≡ if test then seen else Seen.Unknown }
 {
-    for number in 0..frame.marker {
-        let seen = seen_at(before, frame.marker - number);
-        if denies_named(pulses, format, frame, true, number, seen) {
-            return false;
-        }
-    }
-    true
+    if test { seen } else { Seen::Unknown }
 }
 
-/// What the last frame says of a pulse, if no pulse denies (`none`), and that many are in step.
+/// What the last frame says of a pulse, if the end is sure (`none`), and that many are in step.
 fn end_point(
     format: Format,
     frame: &Frame,
@@ -82,7 +107,7 @@ fn end_point(
     }
 }
 
-/// What the first frame says of a pulse, if no pulse denies (`none`), and that many are in step.
+/// What the first frame says of a pulse, if the end is sure (`none`), and that many are in step.
 fn begin_point(
     format: Format,
     frame: &Frame,
@@ -172,7 +197,11 @@ pub fn end_points(
     let many = pulses.len() - frame.marker;
     let slack = end_slack(pulses, frame);
     let after = seen_after(alloc, pulses, format, frame, slack, many)?;
-    let none = none_denies_after(pulses, format, frame, &after);
+    let row = Row {
+        marker: frame.marker,
+        is_back: false,
+    };
+    let none = is_sure(pulses, format, frame, &row, many - 1);
     let steps = in_step(&after);
     let list = end_list(alloc, format, frame, none, steps, many)?;
     Ok(list)
@@ -198,7 +227,11 @@ pub fn begin_points(
     let many = frame.marker + 1;
     let slack = end_slack(pulses, frame);
     let before = seen_before(alloc, pulses, format, frame, slack, many)?;
-    let none = none_denies_before(pulses, format, frame, &before);
+    let row = Row {
+        marker: frame.marker,
+        is_back: true,
+    };
+    let none = is_sure(pulses, format, frame, &row, many);
     let steps = in_step(&before);
     let end = frame.marker + time_elements(format);
     let list = begin_list(alloc, format, frame, none, steps, end)?;

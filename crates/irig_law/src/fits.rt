@@ -2,18 +2,18 @@
 //! two digits: 20 for 2000 to 2099. `Lens` shows the pulses of a track. Bounds in `requires`, as
 //! 2 ^ 26, only keep sums in their types.
 
-ghost use Rattle.std.specs.Prelude.{◌≡◌, ◌↔◌, ◌<◌, ◌≤◌, ◌+◌, ◌-◌, ◌^◌, ℕ, IsTrue, MatchOption};
-ghost use Rattle.std.specs.Prelude.{Some, length, slice_get};
+ghost use Rattle.std.specs.Prelude.{◌≡◌, ◌↔◌, ◌<◌, ◌≤◌, ◌+◌, ◌-◌, ◌^◌, ℕ, IfSome, IsTrue};
+ghost use Rattle.std.specs.Prelude.{MatchOption, Some, length, slice_get};
 ghost use Rattle.irig_law.specs.Clocks.{slack_of};
-ghost use Rattle.irig_law.specs.Fits.{Fits, IsNear, periods_apart, periods_in};
+ghost use Rattle.irig_law.specs.Fits.{Fits, IsBridged, IsLong, between, periods_apart, periods_in};
 ghost use Rattle.irig_law.specs.Seens.{MeetAt, SeenAfter, SeenBefore};
 
 use crate::calendar::micros_after;
-use crate::clocks::span_of;
+use crate::clocks::{slack_of, span_of};
 use crate::frame::Frame;
-use crate::names::Seen;
+use crate::names::{Seen, Walk};
 use crate::row::micros_between;
-use crate::seens::seen_at;
+use crate::seens::{last_named, seen_at};
 use irig_codes::Format;
 use irig_times::Time;
 use irig_track::Lens;
@@ -24,7 +24,8 @@ const LONGEST: u128 = 1 << 40;
 /// How many periods some microseconds are, if they are whole ones.
 fn periods_in(period: u64, micros: u128) -> Option<u64>
     requires some { 0 < period }
-    ensures { result ≡ periods_in period micros }
+    ensures periods { result ≡ periods_in period micros }
+    ensures few { IfSome result (λ n. n < 2 ^ 41) }
 {
     if 0 < micros && micros < LONGEST && micros % period as u128 == 0 {
         Some(micros as u64 / period)
@@ -37,25 +38,57 @@ fn periods_in(period: u64, micros: u128) -> Option<u64>
 fn periods_apart(century: u32, period: u64, from: &Time, to: &Time) -> Option<u64>
     requires century { century ≤ 99 }
     requires some { 0 < period }
-    ensures { result ≡ periods_apart century period from.now to.now }
+    ensures periods { result ≡ periods_apart century period from.now to.now }
+    ensures few { IfSome result (λ n. n < 2 ^ 41) }
 {
     periods_in(period, micros_after(century, from, to))
 }
 
-/// Whether two markers are this many periods apart by the clock of both frames, to half an
-/// interval.
-fn is_near(pulses: &mut Lens<'_>, from: &Frame, to: &Frame, periods: u64) -> bool
-    requires { (from.now.marker < 2 ^ 26) × (to.now.marker < 2 ^ 26) }
-    ensures near { IsTrue result
-        ↔ IsNear pulses.old.track.pulses from.now to.now periods }
+/// Whether some microseconds are that many elements by the clock of both frames, to half an
+/// interval and to what the clock strays.
+fn is_long(pulses: &mut Lens<'_>, from: &Frame, to: &Frame, micros: u64, many: u128) -> bool
+    requires markers { (from.now.marker < 2 ^ 26) × (to.now.marker < 2 ^ 26) }
+    requires small { (micros ≤ 2 ^ 40) × (many < 2 ^ 71) }
+    ensures long { IsTrue result ↔ IsLong pulses.old.track.pulses from.now to.now micros many }
     ensures pulses { pulses.new.track ≡ pulses.old.track }
 {
-    let found = micros_between(pulses, from.marker, to.marker);
     let one = span_of(pulses, from);
     let other = span_of(pulses, to);
+    let slack = slack_of(pulses, from, to);
     let both = one as u128 + other as u128;
-    let said = 100 * periods as u128 * both;
-    2 * (198 * found as u128).abs_diff(said) <= both
+    2 * (198 * micros as u128).abs_diff(many * both) <= both + 4 * (many * slack as u128)
+}
+
+/// How many elements are between pulses that have these names by frames that are this many periods
+/// apart.
+fn between(periods: u64, last: &Walk, first: &Walk) -> u128
+    ensures between { result ≡ between periods last.now first.now }
+    ensures low { result < 2 ^ 71 }
+{
+    (100 * periods as u128).saturating_sub(last.element as u128 + first.element as u128)
+}
+
+/// Whether from the last pulse that has a name by the first frame, to the first one that has one by
+/// the second, it is as long as the elements between them have to be.
+fn is_bridged(
+    pulses: &mut Lens<'_>,
+    from: &Frame,
+    to: &Frame,
+    periods: u64,
+    last: &Walk,
+    first: &Walk,
+) -> bool
+    requires markers { (from.now.marker < 2 ^ 26) × (to.now.marker < 2 ^ 26) }
+    requires last { last.now.last < 2 ^ 32 }
+    ensures bridged { IsTrue result
+        ↔ IsBridged pulses.old.track.pulses from.now to.now periods last.now first.now }
+    ensures pulses { pulses.new.track ≡ pulses.old.track }
+{
+    let many = between(periods, last, first);
+    let end = to.marker.saturating_sub(first.last);
+    let micros = micros_between(pulses, from.marker + last.last, end);
+    let long = is_long(pulses, from, to, micros, many);
+    0 < many && long
 }
 
 /// Whether a pulse has the same name by both frames, which are this many periods apart. The second
@@ -117,12 +150,15 @@ pub fn fits(
     ensures fits { MatchOption result
         ((n : ℕ) → Fits format century pulses.old.track.pulses from.now to.now n → ⊥)
         (λ n. Fits format century pulses.old.track.pulses from.now to.now n) }
+    ensures few { IfSome result (λ n. n < 2 ^ 41) }
     ensures pulses { pulses.new.track ≡ pulses.old.track }
 {
     let Some(periods) = periods_apart(century, format.frame_period(), &from.time, &to.time) else {
         return None;
     };
-    if is_near(pulses, from, to, periods) {
+    let last = last_named(after, before.len());
+    let first = last_named(before, before.len());
+    if is_bridged(pulses, from, to, periods, &last, &first) {
         return Some(periods);
     }
     if meet(after, before, periods) {

@@ -10,6 +10,7 @@ ghost use Rattle.irig_law.specs.Denials.{denies_first, denies_second};
 ghost use Rattle.irig_law.specs.Happened.{HasHappened};
 ghost use Rattle.irig_law.specs.Seens.{SeenAfter, SeenBefore};
 ghost use Rattle.irig_law.specs.Stretches.{first_denials, second_denials, stretch};
+ghost use Rattle.irig_law.specs.Wanted.{IsKept};
 
 use crate::denials::{denies_seen, is_denied};
 use crate::fits::fits;
@@ -18,6 +19,7 @@ use crate::names::Seen;
 use crate::point::element_after;
 use crate::seens::seen_at;
 use crate::sides::{Sides, sides_of};
+use crate::wanted::Wanted;
 use irig_codes::Format;
 use irig_times::time_elements;
 use irig_track::Lens;
@@ -48,17 +50,20 @@ fn denies_first(
     frame: &Frame,
     after: &[Seen],
     number: usize,
+    kept: &mut Option<Wanted>,
 ) -> bool
+    requires kept { IsKept format kept.old }
     requires minute { frame.now.time.micros < 61000000 }
     requires place { (frame.now.marker ≤ number) × (number - frame.now.marker < length after.now) }
     requires low { (k e : ℕ) → slice_get after.now k ≡ Some (Seen.Named e) → e < 2 ^ 63 }
+    ensures kept { IsKept format kept.new }
     ensures denies { (slack : ℕ)
         → SeenAfter format pulses.old.track.pulses frame.now slack after.now
         → result ≡ denies_first format pulses.old.track.pulses frame.now slack number }
     ensures pulses { pulses.new.track ≡ pulses.old.track }
 {
     let seen = seen_at(after, number - frame.marker);
-    denies_seen(pulses, format, frame, false, number, seen)
+    denies_seen(pulses, format, frame, false, number, seen, kept)
 }
 
 /// Whether a pulse denies what is seen of it by the second frame, or from the marker of that one on
@@ -69,11 +74,14 @@ fn denies_second(
     frame: &Frame,
     before: &[Seen],
     number: usize,
+    kept: &mut Option<Wanted>,
 ) -> bool
+    requires kept { IsKept format kept.old }
     requires minute { frame.now.time.micros < 61000000 }
     requires place { frame.now.marker - number < length before.now }
     requires small { number < 2 ^ 32 }
     requires low { (k e : ℕ) → slice_get before.now k ≡ Some (Seen.Named e) → e < 2 ^ 63 }
+    ensures kept { IsKept format kept.new }
     ensures denies { (slack : ℕ)
         → SeenBefore format pulses.old.track.pulses frame.now slack before.now
         → result ≡ denies_second format pulses.old.track.pulses frame.now slack number }
@@ -81,10 +89,10 @@ fn denies_second(
 {
     if number <= frame.marker {
         let seen = seen_at(before, frame.marker - number);
-        denies_seen(pulses, format, frame, true, number, seen)
+        denies_seen(pulses, format, frame, true, number, seen, kept)
     } else {
         let point = element_after(format, frame, (number - frame.marker) as u64);
-        is_denied(pulses, format, number, point)
+        is_denied(pulses, format, number, point, kept)
     }
 }
 
@@ -107,9 +115,11 @@ fn first_denials(
         ≡ first_denials format pulses.old.track.pulses from.now to.now) }
     ensures pulses { pulses.new.track ≡ pulses.old.track }
 {
+    let mut kept = None;
     let mut list = Vec::new(alloc);
     for place in 0..stretch(format, from, to) {
-        let denies = denies_first(pulses, format, from, after, from.marker + place);
+        let number = from.marker + place;
+        let denies = denies_first(pulses, format, from, after, number, &mut kept);
         list.push(denies)?;
     }
     Ok(list)
@@ -133,9 +143,11 @@ fn second_denials(
         ≡ second_denials format pulses.old.track.pulses from.now to.now) }
     ensures pulses { pulses.new.track ≡ pulses.old.track }
 {
+    let mut kept = None;
     let mut list = Vec::new(alloc);
     for place in 0..stretch(format, from, to) {
-        let denies = denies_second(pulses, format, to, before, from.marker + place);
+        let number = from.marker + place;
+        let denies = denies_second(pulses, format, to, before, number, &mut kept);
         list.push(denies)?;
     }
     Ok(list)
@@ -163,6 +175,7 @@ pub fn what_happened(
     requires long_too { length before.now ≡ to.now.marker - from.now.marker + 1 }
     ensures happened { IfOk result (λ h.
         HasHappened format century pulses.old.track.pulses from.now to.now h) }
+    ensures few { IfOk result (λ h. (n : ℕ) → h ≡ Happened.Nothing n → n < 2 ^ 41) }
     ensures pulses { pulses.new.track ≡ pulses.old.track }
 {
     if let Some(periods) = fits(pulses, format, century, from, to, after, before) {

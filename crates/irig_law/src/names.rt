@@ -2,7 +2,8 @@
 //! name. `Lens` shows the pulses of a track. Bounds in `requires`, as 2 ^ 40, only keep sums in
 //! their types.
 
-ghost use Rattle.std.specs.Prelude.{◌≡◌, ◌<◌, ◌≤◌, ◌+◌, ◌^◌, ℕ, IfOk, length, slice_get, Some};
+ghost use Rattle.std.specs.Prelude.{◌≡◌, ◌<◌, ◌≤◌, ◌+◌, ◌^◌, ℕ, IfOk, Some, length, slice_get};
+ghost use Rattle.std.specs.Prelude.{true};
 ghost use Rattle.irig_law.specs.Hop.{hop};
 ghost use Rattle.irig_law.specs.Names.{judged, moved, seen, seen_at};
 ghost use Rattle.irig_law.specs.Rows.{rise_in, runs_in};
@@ -81,6 +82,18 @@ fn seen_at(
     if !runs_in(pulses, format, row, place) {
         return Seen::Unknown;
     }
+    judged_at(pulses, row, clock, walk, place)
+}
+
+/// The same of a pulse of which it is not asked whether it is noise.
+pub fn judged_at(pulses: &mut Lens<'_>, row: &Row, clock: &Clock, walk: Walk, place: usize) -> Seen
+    requires row { (row.now.marker < 2 ^ 26) × (place < 2 ^ 26) × (clock.now.span ≤ 2 ^ 40) }
+    requires walk { (walk.last < place) × (walk.element < 2 ^ 63) }
+    ensures seen { result ≡ seen_at clock.now (rise_in pulses.old.track.pulses row.now)
+        (λ k. true) place walk }
+    ensures low { (e : ℕ) → result ≡ Seen.Named e → e < walk.element + 2 ^ 36 }
+    ensures pulses { pulses.new.track ≡ pulses.old.track }
+{
     let to = rise_in(pulses, row, place);
     let from = rise_in(pulses, row, walk.last);
     judged(clock, walk.element, to.saturating_sub(from))
@@ -107,7 +120,7 @@ fn judged(clock: &Clock, element: u64, distance: u64) -> Seen
 }
 
 /// The walk after one more pulse, of which this is seen.
-fn moved(walk: Walk, place: usize, seen: Seen) -> Walk
+pub fn moved(walk: Walk, place: usize, seen: Seen) -> Walk
     ensures { result ≡ moved walk place seen }
 {
     match seen {

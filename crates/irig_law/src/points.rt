@@ -29,22 +29,23 @@ pub fn track_points(
     records: &mut FrameLens<'_>,
     format: Format,
     century: u32,
+    alone: bool,
 ) -> Result<Vec<Option<Point>>, AllocError>
     requires century { century ≤ 99 }
     requires frames { records.old.records ≡ frames format pulses.old.track.pulses }
     ensures points { IfOk result (λ list. (k : ℕ) (x : Point)
         → (slice_get list.items k ≡ Some (Some x))
         ↔ IsPoint format century pulses.old.track.pulses
-        (believed format century pulses.old.track.pulses) k x) }
+        (believed format alone century pulses.old.track.pulses) k x) }
     ensures true_times { IfOk result (λ list. (name : ℕ → ℕ) (sent : ℕ → Fields)
         → Story format century pulses.old.track.pulses
-        (believed format century pulses.old.track.pulses) name sent
+        (believed format alone century pulses.old.track.pulses) name sent
         → (k : ℕ) (x : Point) → slice_get list.items k ≡ Some (Some x)
         → printed format x ≡ true_time format sent (name k)) }
     ensures pulses { pulses.new.track ≡ pulses.old.track }
     ensures same { records.new.records ≡ records.old.records }
 {
-    let frames = believed_frames(alloc, pulses, records, format, century)?;
+    let frames = believed_frames(alloc, pulses, records, format, century, alone)?;
     let list = points_of(alloc, pulses, &frames, format, century)?;
     Ok(list)
 }

@@ -4,7 +4,8 @@
 
 ghost use Rattle.std.specs.Prelude.{◌≡◌, ◌<◌, ◌≤◌, ◌+◌, ◌^◌, slice_get};
 ghost use Rattle.irig_times.specs.Torn.{micros_between};
-ghost use Rattle.irig_law.specs.Rows.{is_clean, is_joined, place_in, rise_in, runs_in};
+ghost use Rattle.irig_law.specs.Rows.{half_in, is_clean, is_half_clean, is_joined, place_in};
+ghost use Rattle.irig_law.specs.Rows.{rise_in, runs_in};
 
 use irig_codes::Format;
 use irig_times::{is_in_step_at, pulse_at};
@@ -35,7 +36,7 @@ pub fn micros_between(pulses: &mut Lens<'_>, one: usize, other: usize) -> u64
 }
 
 /// The number in the track of a pulse of a row.
-fn place_in(row: &Row, place: usize) -> usize
+pub fn place_in(row: &Row, place: usize) -> usize
     requires { (row.now.marker < 2 ^ 31) × (place < 2 ^ 31) }
     ensures is { result ≡ place_in row.now place }
     ensures low { result < 2 ^ 32 }
@@ -85,11 +86,31 @@ fn is_clean(pulses: &mut Lens<'_>, format: Format, number: usize) -> bool
         && is_joined(pulses, format, number + 2)
 }
 
-/// The same of a pulse of a row.
+/// Whether the two pulses before one, or the two after it, are in step with it.
+fn is_half_clean(pulses: &mut Lens<'_>, format: Format, number: usize) -> bool
+    requires { number < 2 ^ 32 }
+    ensures clean { result ≡ is_half_clean format pulses.old.track.pulses number }
+    ensures pulses { pulses.new.track ≡ pulses.old.track }
+{
+    number < pulses.len()
+        && (is_joined(pulses, format, number.saturating_sub(1)) && is_joined(pulses, format, number)
+            || is_joined(pulses, format, number + 1) && is_joined(pulses, format, number + 2))
+}
+
+/// Whether a pulse of a row is no noise.
 pub fn runs_in(pulses: &mut Lens<'_>, format: Format, row: &Row, place: usize) -> bool
     requires { (row.now.marker < 2 ^ 31) × (place < 2 ^ 31) }
     ensures runs { result ≡ runs_in format pulses.old.track.pulses row.now place }
     ensures pulses { pulses.new.track ≡ pulses.old.track }
 {
     is_clean(pulses, format, place_in(row, place))
+}
+
+/// Whether two pulses on one side of a pulse of a row are in step with it.
+pub fn half_in(pulses: &mut Lens<'_>, format: Format, row: &Row, place: usize) -> bool
+    requires { (row.now.marker < 2 ^ 31) × (place < 2 ^ 31) }
+    ensures half { result ≡ half_in format pulses.old.track.pulses row.now place }
+    ensures pulses { pulses.new.track ≡ pulses.old.track }
+{
+    is_half_clean(pulses, format, place_in(row, place))
 }

@@ -2,14 +2,16 @@
 //! `Lens` shows the pulses of a track. Bounds in `requires`, as 2 ^ 26, only keep sums in their
 //! types.
 
-ghost use Rattle.std.specs.Prelude.{◌≡◌, ◌↔◌, ◌<◌, ◌≤◌, ◌^◌, ℕ, IfOk, IsTrue, Some, length};
-ghost use Rattle.std.specs.Prelude.{slice_get};
+ghost use Rattle.std.specs.Prelude.{◌≡◌, ◌↔◌, ◌<◌, ◌≤◌, ◌-◌, ◌^◌, ℕ, Bool, IfOk, IsTrue, Some};
+ghost use Rattle.std.specs.Prelude.{length, slice_get};
 ghost use Rattle.irig_law.specs.EndPoints.{AreInStep};
+ghost use Rattle.irig_law.specs.Names.{seen, walk};
 ghost use Rattle.irig_law.specs.Seens.{SeenAfter, SeenBefore};
+ghost use Rattle.irig_law.specs.declared.clock.Clock.{Clock};
 
 use crate::clocks::clock_of;
 use crate::frame::Frame;
-use crate::names::{Seen, names_in};
+use crate::names::{Seen, Walk, moved, names_in};
 use crate::row::Row;
 use irig_codes::Format;
 use irig_track::Lens;
@@ -67,6 +69,24 @@ pub fn seen_at(list: &[Seen], place: usize) -> Seen
     ensures { slice_get list.now place ≡ Some result }
 {
     list[place]
+}
+
+/// The last pulse with a name of the first `many` of such a list.
+pub fn last_named(list: &[Seen], many: usize) -> Walk
+    requires { (0 < many) × (many ≤ length list.now) }
+    ensures last { (c : Clock) (rise : ℕ → ℕ) (runs : ℕ → Bool)
+        → ((k : ℕ) → k < many → slice_get list.now k ≡ Some (seen c rise runs k))
+        → result ≡ walk c rise runs (many - 1) }
+    ensures low { result.last < many }
+{
+    let mut walk = Walk {
+        last: 0,
+        element: 0,
+    };
+    for place in 1..many {
+        walk = moved(walk, place, seen_at(list, place));
+    }
+    walk
 }
 
 /// How many pulses at the begin of such a list are each the next element.

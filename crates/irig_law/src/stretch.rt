@@ -3,104 +3,31 @@
 
 ghost use Rattle.std.specs.Prelude.{◌≡◌, ◌↔◌, ◌<◌, ◌≤◌, ◌+◌, ◌-◌, ◌*◌, ◌^◌, ℕ, IfOk, Some, length};
 ghost use Rattle.std.specs.Prelude.{Option, slice_get};
-ghost use Rattle.irig_law.specs.Happened.{IsPointBy, event_of, point_by};
+ghost use Rattle.irig_law.specs.Happened.{IsPointBy, event_of, is_doubtful_in, point_by};
 ghost use Rattle.irig_law.specs.Law.{IsBetween};
-ghost use Rattle.irig_law.specs.Stretches.{are_alike, by_second, first_of, middle_element};
-ghost use Rattle.irig_law.specs.Stretches.{named_after, named_before, quiet_of, stretch};
+ghost use Rattle.irig_law.specs.{Quiet.quiet_of, Stretches.by_second, Stretches.stretch};
 
 use crate::clocks::slack_of;
+use crate::doubts::{denials_by, is_doubtful};
 use crate::frame::Frame;
 use crate::happened::{Happened, stretch, what_happened};
+use crate::middle::{middle_element, name_of, named_after, named_before};
 use crate::names::Seen;
-use crate::point::{Point, element_after, element_before};
+use crate::point::{Point, element_after};
 use crate::seens::{seen_after, seen_at, seen_before};
 use crate::sides::Sides;
 use irig_codes::Format;
 use irig_track::Lens;
 use std::alloc::{AllocError, Global};
 
-/// The element of what is seen of a pulse by the frame before it.
-fn named_after(format: Format, frame: &Frame, seen: Seen) -> Option<Point>
-    requires minute { frame.now.time.micros < 61000000 }
-    requires low { (e : ℕ) → seen ≡ Seen.Named e → e < 2 ^ 63 }
-    ensures { result ≡ named_after format frame.now seen }
-{
-    match seen {
-        Seen::Named(name) => element_after(format, frame, name),
-        Seen::Astray => None,
-        Seen::Unknown => None,
-    }
-}
-
-/// The element of what is seen of a pulse by the frame after it.
-fn named_before(format: Format, frame: &Frame, seen: Seen) -> Option<Point>
-    requires minute { frame.now.time.micros < 61000000 }
-    requires low { (e : ℕ) → seen ≡ Seen.Named e → e < 2 ^ 63 }
-    ensures { result ≡ named_before format frame.now seen }
-{
-    match seen {
-        Seen::Named(name) => element_before(format, frame, name),
-        Seen::Astray => None,
-        Seen::Unknown => None,
-    }
-}
-
-/// Whether two names of a pulse are of one element of frames that are this many periods apart, as
-/// far as both are known.
-fn are_alike(periods: u64, one: Seen, other: Seen) -> bool
-    ensures { result ≡ are_alike (100 * periods) one other }
-{
-    match (one, other) {
-        (Seen::Named(one), Seen::Named(other)) => {
-            one as u128 + other as u128 == 100 * periods as u128
-        }
-        (Seen::Named(_), Seen::Astray) => true,
-        (Seen::Named(_), Seen::Unknown) => true,
-        (Seen::Astray, _) => true,
-        (Seen::Unknown, _) => true,
-    }
-}
-
-/// The first one that is there.
-fn first_of(one: Option<Point>, other: Option<Point>) -> Option<Point>
-    ensures { result ≡ first_of one other }
-{
-    match one {
-        Some(one) => Some(one),
-        None => other,
-    }
-}
-
-/// The element of a pulse between two frames, by its names.
-fn middle_element(
-    format: Format,
-    from: &Frame,
-    to: &Frame,
-    periods: u64,
-    one: Seen,
-    other: Seen,
-) -> Option<Point>
-    requires times { (from.now.time.micros < 61000000) × (to.now.time.micros < 61000000) }
-    requires low { (e : ℕ) → one ≡ Seen.Named e → e < 2 ^ 63 }
-    requires low_too { (e : ℕ) → other ≡ Seen.Named e → e < 2 ^ 63 }
-    ensures { result ≡ middle_element format from.now to.now (100 * periods) one other }
-{
-    if are_alike(periods, one, other) {
-        first_of(
-            named_after(format, from, one),
-            named_before(format, to, other),
-        )
-    } else {
-        None
-    }
-}
-
-/// The element of a pulse without an event: a frame's own pulses are its elements.
+/// The element of a pulse without an event: a frame's own pulses are its elements. `denials` is how
+/// many pulses deny each frame of the code between them.
 fn quiet_point(
     format: Format,
     from: &Frame,
     to: &Frame,
     periods: u64,
+    denials: &[u32],
     number: usize,
     one: Seen,
     other: Seen,
@@ -109,12 +36,16 @@ fn quiet_point(
     requires small { (from.now.marker < 2 ^ 32) × (number < 2 ^ 32) }
     requires low { (e : ℕ) → one ≡ Seen.Named e → e < 2 ^ 63 }
     requires low_too { (e : ℕ) → other ≡ Seen.Named e → e < 2 ^ 63 }
-    ensures { result ≡ quiet_of format from.now to.now (100 * periods) number one other }
+    requires few { periods < 2 ^ 41 }
+    ensures { result ≡ quiet_of format from.now to.now (100 * periods)
+        (is_doubtful_in denials.now) number one other }
 {
     if number < from.marker + 100 {
         element_after(format, from, number.saturating_sub(from.marker) as u64)
     } else if to.marker <= number {
         element_after(format, to, (number - to.marker) as u64)
+    } else if is_doubtful(denials, name_of(periods, one, other) / 100) {
+        None
     } else {
         middle_element(format, from, to, periods, one, other)
     }
@@ -169,6 +100,7 @@ fn point_by(
     from: &Frame,
     to: &Frame,
     happened: &Happened,
+    denials: &[u32],
     number: usize,
     one: Seen,
     other: Seen,
@@ -177,10 +109,13 @@ fn point_by(
     requires small { (from.now.marker < 2 ^ 32) × (number < 2 ^ 32) }
     requires low { (e : ℕ) → one ≡ Seen.Named e → e < 2 ^ 63 }
     requires low_too { (e : ℕ) → other ≡ Seen.Named e → e < 2 ^ 63 }
-    ensures { result ≡ point_by format from.now to.now happened.now number one other }
+    requires few { (n : ℕ) → happened.now ≡ Happened.Nothing n → n < 2 ^ 41 }
+    ensures { result ≡ point_by format from.now to.now happened.now denials.now number one other }
 {
     match *happened {
-        Happened::Nothing(periods) => quiet_point(format, from, to, periods, number, one, other),
+        Happened::Nothing(periods) => {
+            quiet_point(format, from, to, periods, denials, number, one, other)
+        }
         Happened::Event(sides) => event_point(format, from, to, sides, number, one, other),
     }
 }
@@ -193,6 +128,7 @@ fn points_by(
     from: &Frame,
     to: &Frame,
     happened: &Happened,
+    denials: &[u32],
     after: &[Seen],
     before: &[Seen],
 ) -> Result<Vec<Option<Point>>, AllocError>
@@ -202,17 +138,18 @@ fn points_by(
     requires long_too { length before.now ≡ to.now.marker - from.now.marker + 1 }
     requires low { (k e : ℕ) → slice_get after.now k ≡ Some (Seen.Named e) → e < 2 ^ 63 }
     requires low_too { (k e : ℕ) → slice_get before.now k ≡ Some (Seen.Named e) → e < 2 ^ 63 }
+    requires few { (n : ℕ) → happened.now ≡ Happened.Nothing n → n < 2 ^ 41 }
     ensures each { IfOk result (λ list. length list.items ≡ stretch format from.now to.now) }
     ensures points { IfOk result (λ list. (i : ℕ) (y : Option Point)
         → slice_get list.items i ≡ Some y
-        → IsPointBy format from.now to.now happened.now after.now before.now i y) }
+        → IsPointBy format from.now to.now happened.now denials.now after.now before.now i y) }
 {
     let mut list = Vec::new(alloc);
     for place in 0..stretch(format, from, to) {
         let number = from.marker + place;
         let one = seen_at(after, place);
         let other = seen_at(before, to.marker.saturating_sub(number));
-        list.push(point_by(format, from, to, happened, number, one, other))?;
+        list.push(point_by(format, from, to, happened, denials, number, one, other))?;
     }
     Ok(list)
 }
@@ -243,6 +180,9 @@ pub fn stretch_points(
     let gap = to.marker - from.marker;
     let before = seen_before(alloc, pulses, format, to, slack, gap + 1)?;
     let happened = what_happened(alloc, pulses, format, century, from, to, &after, &before)?;
-    let list = points_by(alloc, format, from, to, &happened, &after, &before)?;
+    let denials = denials_by(alloc, pulses, format, from, to, &happened, &after, &before)?;
+    let list = points_by(
+        alloc, format, from, to, &happened, &denials, &after, &before,
+    )?;
     Ok(list)
 }

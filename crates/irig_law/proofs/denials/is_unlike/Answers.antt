@@ -1,7 +1,7 @@
 use Rattle.std.proofs.Common.{◌≡◌, ◌&&◌, Bool, List, true, slice_get, ap, sym, ◌∙◌}
 use Rattle.irig_codes.specs.{Encoding.encoded, Fields.fits_in}
-use Rattle.irig_codes.specs.declared.{fields.Fields.Fields, width.Element.Element}
-use Rattle.irig_times.specs.OtherTimes.{fields_at}
+use Rattle.irig_codes.specs.declared.width.Element.{Element}
+use Rattle.irig_times.specs.{OtherTimes.fields_at, declared.time.Time.Time}
 use Rattle.irig_law.specs.Denials.{is_unlike_in}
 use Rattle.irig_law.proofs.denials.is_unlike.Goals as goal
 
@@ -10,9 +10,13 @@ returns-clause-unlike c =
     let f = c.args.format in
     let p = slice_get c.args.pulses.now.track.pulses c.args.number in
     let e = c.args.point.now.element in
+    let w = c.wanted_at-wanted.result in
+    let is = c.wanted_at-wanted.ensures.wanted in
+    let time = c.wanted_at-wanted.ensures.time in
     let g = fields_at f c.args.point.now.frame in
-    let fields : c.fields_at-fields.result ≡ g = c.fields_at-fields.ensures in
-    let fit : fits_in f g ≡ true = sym (ap (λ (g : Fields). fits_in f g) fields) ∙ (sym c.fits.ensures ∙ c.if-not-fits.false) in
+    let fit : fits_in f g ≡ true =
+    sym (is.fits ∙ ap (λ (t : Time). fits_in f (fields_at f t)) time) ∙ c.if-not-wanted.false in
     c.is_unlike_in.ensures.unlike
-    ∙ (ap (λ (w : List Element). is_unlike_in f p w e) (c.encode-wanted.ensures.frame ∙ ap (λ (g : Fields). encoded f g) fields)
+    ∙ (ap (λ (l : List Element). is_unlike_in f p l e)
+    (is.elements c.if-not-wanted.false ∙ ap (λ (t : Time). encoded f (fields_at f t)) time)
     ∙ sym (ap (λ (b : Bool). b && is_unlike_in f p (encoded f g) e) fit))

@@ -23,6 +23,7 @@ loop-place-preserved c =
     let longer = one-longer Bool xs c.push.new.self.items x pushed in
     record {
       track = c.denies_first-denies.ensures.pulses ∙ before.track;
+      kept = c.denies_first-denies.ensures.kept;
       many = omega (arith, longer, before.many);
       each = at-more Bool xs c.push.new.self.items x (λ (i : ℕ) (y : Bool). y ≡ denies_first f ps p slack (a.marker + i)) pushed before.each
           (subst (λ m. x ≡ denies_first f ps p slack (a.marker + m)) (sym before.many) is);

@@ -1,10 +1,12 @@
 use Rattle.std.proofs.Common.{◌≡◌, ◌+◌, Bool, ℕ, length, slice_get, Some}
 use Rattle.irig_law.specs.{Clocks.slack_of, Denials.denies_first}
+use Rattle.irig_law.specs.Wanted.{IsKept}
 use Rattle.irig_law.proofs.happened.first_denials.Given as goal
 
 abbrev pub invariant-loop-place : goal.invariant-loop-place
 invariant-loop-place l = record {
   track : l.pulses.track ≡ l.fn.pulses.track;
+  kept : IsKept l.format l.kept;
   many : length l.list.items ≡ l.place;
   each : (i : ℕ) (y : Bool) → slice_get l.list.items i ≡ Some y
       → y ≡ denies_first l.format l.fn.pulses.track.pulses l.from (slack_of l.fn.pulses.track.pulses l.from l.to) (l.from.marker + i);

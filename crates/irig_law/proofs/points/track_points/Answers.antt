@@ -26,4 +26,4 @@ returns-clause-points c k x =
 pub returns-clause-true_times : goal.returns-clause-true_times
 returns-clause-true_times c name sent story k x at =
     let ps = c.args.pulses.now.track.pulses in
-    times_true c.args.format c.args.century ps (believed c.args.format c.args.century ps) name sent story k x ((returns-clause-points c k x).0 at)
+    times_true c.args.format c.args.century ps (believed c.args.format c.args.alone c.args.century ps) name sent story k x ((returns-clause-points c k x).0 at)

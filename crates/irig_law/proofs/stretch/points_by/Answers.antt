@@ -11,6 +11,7 @@ loop-place-preserved c =
     let a = c.args.from.now in
     let b = c.args.to.now in
     let h = c.args.happened.now in
+    let denials = c.args.denials.now in
     let after = c.args.after.now in
     let back = c.args.before.now in
     let n = c.loop-place.place in
@@ -19,14 +20,14 @@ loop-place-preserved c =
     let one = c.seen_at-one in
     let other = c.seen_at-other in
     let before = c.loop-place.invariant in
-    let here : IsPointBy f a b h after back n x = λ s t at at_too. c.point_by.ensures
-    ∙ (ap (λ (z : Seen). point_by f a b h (a.marker + n) z other.result) (same_Some one.result s (sym one.ensures ∙ at))
-    ∙ ap (λ (z : Seen). point_by f a b h (a.marker + n) s z)
+    let here : IsPointBy f a b h denials after back n x = λ s t at at_too. c.point_by.ensures
+    ∙ (ap (λ (z : Seen). point_by f a b h denials (a.marker + n) z other.result) (same_Some one.result s (sym one.ensures ∙ at))
+    ∙ ap (λ (z : Seen). point_by f a b h denials (a.marker + n) s z)
     (same_Some other.result t (sym other.ensures ∙ (ap (λ (i : ℕ). slice_get back i) c.saturating_sub.ensures ∙ at_too)))) in
     let pushed = c.in_ok-push.ensures.items in
     let longer = one-longer (Option Point) xs c.push.new.self.items x pushed in
     record {
       many = omega (arith, longer, before.many);
-      each = at-more (Option Point) xs c.push.new.self.items x (λ (i : ℕ) (y : Option Point). IsPointBy f a b h after back i y) pushed before.each
-          (subst (λ (m : ℕ). IsPointBy f a b h after back m x) (sym before.many) here);
+      each = at-more (Option Point) xs c.push.new.self.items x (λ (i : ℕ) (y : Option Point). IsPointBy f a b h denials after back i y) pushed before.each
+          (subst (λ (m : ℕ). IsPointBy f a b h denials after back m x) (sym before.many) here);
     }

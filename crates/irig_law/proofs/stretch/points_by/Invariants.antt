@@ -6,5 +6,5 @@ use Rattle.irig_law.proofs.stretch.points_by.Given as goal
 abbrev pub invariant-loop-place : goal.invariant-loop-place
 invariant-loop-place l = record {
   many : length l.list.items ≡ l.place;
-  each : (i : ℕ) (y : Option Point) → slice_get l.list.items i ≡ Some y → IsPointBy l.format l.from l.to l.happened l.after l.before i y;
+  each : (i : ℕ) (y : Option Point) → slice_get l.list.items i ≡ Some y → IsPointBy l.format l.from l.to l.happened l.denials l.after l.before i y;
 }
