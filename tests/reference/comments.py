@@ -24,7 +24,8 @@ def numbers(before, after):
     fine = [sum(report.endswith(" fine") for _, _, report in found.values()) for found in (before, after)]
     made, lost = len(after.keys() - before.keys()), len(before.keys() - after.keys())
     changed = sum(before[place][2] != after[place][2] for place in before.keys() & after.keys())
-    return "# frames: %d fine before, %d fine after, %d made, %d lost, %d changed\n" % (*fine, made, lost, changed)
+    more = "" if any(fine) else "; format or expression can be wrong, irig_what FILE says more"
+    return "# frames: %d fine before, %d fine after, %d made, %d lost, %d changed%s\n" % (*fine, made, lost, changed, more)
 
 
 def lines(before, after, stretches):

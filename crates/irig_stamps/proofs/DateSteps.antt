@@ -1,11 +1,11 @@
 -- Days counted from month to month, and the first frame that has a time.
-use Rattle.std.proofs.Common.{◌≡◌, ◌≤◌, ◌<◌, ◌+◌, ◌-◌, ◌∷◌, ℕ, zero, suc, Bool, List, Option, Some, None, drop, length, slice_get, ap, refl, sym, ◌∙◌, add-one}
+use Rattle.std.proofs.Common.{◌≡◌, ◌≤◌, ◌<◌, ◌+◌, ◌-◌, ◌∷◌, ℕ, zero, suc, Bool, List, Option, Some, None, drop, get_or, length, slice_get, ap, refl, sym, ◌∙◌, add-one}
 use Rattle.std.specs.Prelude.{pos, if◌then◌else◌}
 use Rattle.std.proofs.{Math.Dec.eqb-suc-zero, Math.Seq.drop-cons}
-use Rattle.std.proofs.lemmas.{List.drop_all, Bool.le-leb, Bool.lt-leb, Option.get_or_from_slice_get, Option.slice_get_within}
+use Rattle.std.proofs.lemmas.{List.drop_all, Bool.le-leb, Bool.lt-leb, Option.get_or_from_slice_get, Option.slice_get-get_or, Option.slice_get_within}
 use Rattle.jiff_core.specs.Calendar.{days_in_month}
 use Rattle.irig_codes.specs.{Format.FormatView, declared.fields.Fields.Fields}
-use Rattle.irig_index.specs.declared.record.Record.{Record}
+use Rattle.irig_index.specs.declared.record.{Cause.TheVariants.Ended, Record.Record, Verdict.TheVariants.Broken}
 use Rattle.irig_times.specs.Times.{timed}
 use Rattle.irig_stamps.specs.Dates.{date_after, date_from, day_or, doubt_of, doubted, first_day, if_held}
 
@@ -16,6 +16,12 @@ date-now y n m days le =
 pub date-later : (y n m days : ℕ) → days_in_month (pos y) m < days → date_after y (suc n) m days ≡ date_after y n (m + 1) (days - days_in_month (pos y) m)
 date-later y n m days lt =
     ap (λ (b : Bool). if b then Some (m, days) else date_after y n (m + 1) (days - days_in_month (pos y) m)) (lt-leb days (days_in_month (pos y) m) lt)
+
+-- there is a record at each place
+pub stands : (rs : List Record) (k : ℕ) → k < length rs → (r : Record) × (slice_get rs k ≡ Some r)
+stands rs k lt = (get_or rs k none, slice_get-get_or rs k none lt) where
+  none : Record
+  none = record { marker = 0; verdict = Broken 0 Ended }
 
 -- the records from a place on begin with that at the place
 pub from-place : (rs : List Record) (k : ℕ) (r : Record) → slice_get rs k ≡ Some r → drop k rs ≡ r ∷ drop (suc k) rs

@@ -3,7 +3,7 @@ use Rattle.std.proofs.Common.{◌≡◌, ◌⊎◌, ◌==◌, ◌+◌, ◌-◌, 
 use Rattle.std.specs.Prelude.{if◌then◌else◌}
 use Rattle.std.proofs.Math.Nat.{mul-le-mul_left}
 use Rattle.std.proofs.lemmas.Bool.{and_from, and_parts, cases_lt, eq-eqb, eqb-true, true≢false}
-use Rattle.irig_times.specs.declared.why.Why.TheVariants.{After, Before, Hole, Set, Step, Unbelieved}
+use Rattle.irig_times.specs.declared.why.Why.TheVariants.{After, Before, Hole, Step, Unbelieved}
 use Rattle.irig_times.specs.{declared.why.Why.Why}
 use Rattle.irig_stamps.specs.declared.stretch.Stretch.{Stretch}
 use Rattle.irig_stamps.specs.Holes.{AreHoles, AreInOrder, Covers, IsAfterAll, IsIn}
@@ -11,7 +11,7 @@ use Rattle.irig_stamps.specs.Joined.{number_of, stretch, total, touches, with_mo
 
 -- a reason by its number
 abbrev why_of : ℕ → Why
-why_of n = if n == 0 then Before else (if n == 1 then After else (if n == 2 then Hole else (if n == 3 then Step else (if n == 4 then Unbelieved else Set))))
+why_of n = if n == 0 then Before else (if n == 1 then After else (if n == 2 then Hole else (if n == 3 then Step else Unbelieved)))
 
 why_back : (v : Why) → why_of (number_of v) ≡ v
 why_back Before = refl
@@ -19,7 +19,6 @@ why_back After = refl
 why_back Hole = refl
 why_back Step = refl
 why_back Unbelieved = refl
-why_back Set = refl
 
 same_why : (v w : Why) → number_of v ≡ number_of w → v ≡ w
 same_why v w e = sym (why_back v) ∙ (ap why_of e ∙ why_back w)

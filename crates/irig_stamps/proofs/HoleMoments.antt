@@ -7,27 +7,28 @@ use Rattle.irig_codes.specs.Format.{FormatView}
 use Rattle.irig_recording.specs.declared.pulse.Pulse.{Pulse}
 use Rattle.irig_track.specs.{Splices.risen_by, Track.IsTrackUpTo}
 use Rattle.irig_track.proofs.Searches.{risen_above, risen_below, risen_by-le}
-use Rattle.irig_times.specs.{Counted.IsTimed, Untimed.HasNoTime, Untimed.IsWhy, Support.believed}
+use Rattle.irig_timed.specs.{Around.AreAround, Moments.IsElement, Moments.IsTimed, Moments.frames_by, Reasons.HasNoTime, Reasons.IsWhy}
 use Rattle.irig_times.specs.{declared.time.Time.Time, declared.why.Why.Why}
 use Rattle.irig_stamps.specs.Holes.{HasBegun, IsBetween}
 
-module _ (f : FormatView) (alone : Bool) (century micros : ℕ) (ps : List Pulse) (d n e m : ℕ) (same : risen_by (n / d) ps ≡ risen_by (m / e) ps) where
-  pub moved : (x : Time) → IsTimed f alone century micros ps d n x → (y : Time) × IsTimed f alone century micros ps e m y
+module _ (f : FormatView) (alone : Bool) (century : ℕ) (ps : List Pulse) (d n e m : ℕ) (same : risen_by (n / d) ps ≡ risen_by (m / e) ps) where
+  pub moved : (x : Time) → IsTimed f alone century ps d n x → (y : Time) × IsTimed f alone century ps e m y
   moved x a = (
     _,
-    record {
-      number = a.number;
-      element = a.element;
-      start = a.start;
-      point = a.point;
-      next = a.next;
-      last = sym same ∙ a.last;
-      stands = a.stands;
-      stands_next = a.stands_next;
-      is_point = a.is_point;
-      goes_on = a.goes_on;
-      is = refl;
-    },
+    (
+      a.0,
+      record {
+        from = a.1.from;
+        to = a.1.to;
+        point = a.1.point;
+        next = a.1.next;
+        around = subst (λ (risen : ℕ). AreAround (IsElement f century ps (frames_by f alone century ps)) risen (Some a.1.from) (Some a.1.to)) same a.1.around;
+        stands = a.1.stands;
+        stands_next = a.1.stands_next;
+        line = a.1.line;
+        is = refl;
+      },
+    ),
   )
 
 -- a moment of a stretch is in a microsecond of it
@@ -45,7 +46,7 @@ in-stretch d n begin end some from to = (low, high) where
     | inr le ↦ absurd (omega (arith, to, mul-div-le n d, mul-le-mul_left d le))
   ]
 
-module _ (f : FormatView) (alone : Bool) (century micros : ℕ) (ps : List Pulse) (risen begin end : ℕ) (between : IsBetween ps risen begin end)
+module _ (f : FormatView) (alone : Bool) (century : ℕ) (ps : List Pulse) (risen begin end : ℕ) (between : IsBetween ps risen begin end)
     (some : begin < end) where
   risen-in : (d n : ℕ) → 0 < d → d * begin ≤ n → n < d * end → risen_by (n / d) ps ≡ risen
   risen-in d n pos from to = let at = in-stretch d n begin end pos from to in between (n / d) at.0 at.1
@@ -53,18 +54,18 @@ module _ (f : FormatView) (alone : Bool) (century micros : ℕ) (ps : List Pulse
   risen-first : risen_by (1000000 * begin / 1000000) ps ≡ risen
   risen-first = risen-in 1000000 (1000000 * begin) (omega arith) (omega arith) (omega (arith, some))
 
-  pub all-timed : (x : Time) → IsTimed f alone century micros ps 1000000 (1000000 * begin) x → (d n : ℕ) (why : Why) → 0 < d → d * begin ≤ n
-      → n < d * end → HasNoTime f alone century micros ps d n why → ⊥
+  pub all-timed : (x : Time) → IsTimed f alone century ps 1000000 (1000000 * begin) x → (d n : ℕ) (why : Why) → 0 < d → d * begin ≤ n
+      → n < d * end → HasNoTime f alone century ps d n why → ⊥
   all-timed x is d n why pos from to h =
-      let there = moved f alone century micros ps 1000000 (1000000 * begin) d n (risen-first ∙ sym (risen-in d n pos from to)) x is in
+      let there = moved f alone century ps 1000000 (1000000 * begin) d n (risen-first ∙ sym (risen-in d n pos from to)) x is in
       h.none there.0 there.1
 
-  pub all-untimed : (why : Why) → HasNoTime f alone century micros ps 1000000 (1000000 * begin) why → (d n : ℕ) → 0 < d → d * begin ≤ n
-      → n < d * end → HasNoTime f alone century micros ps d n why
+  pub all-untimed : (why : Why) → HasNoTime f alone century ps 1000000 (1000000 * begin) why → (d n : ℕ) → 0 < d → d * begin ≤ n
+      → n < d * end → HasNoTime f alone century ps d n why
   all-untimed why h d n pos from to =
       let same : risen_by (n / d) ps ≡ risen_by (1000000 * begin / 1000000) ps = risen-in d n pos from to ∙ sym risen-first in record {
-        none = λ x is. (let there = moved f alone century micros ps d n 1000000 (1000000 * begin) same x is in h.none there.0 there.1);
-        is = subst (λ (r : ℕ). IsWhy f (believed f alone ps) century ps r why) (sym same) h.is;
+        none = λ x is. (let there = moved f alone century ps d n 1000000 (1000000 * begin) same x is in h.none there.0 there.1);
+        is = subst (λ (r : ℕ). IsWhy f alone century ps r why) (sym same) h.is;
       }
 
 module _ (most micros : ℕ) (ps : List Pulse) (track : IsTrackUpTo most micros ps) where

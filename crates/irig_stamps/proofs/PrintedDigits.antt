@@ -7,7 +7,7 @@ use Rattle.jiff_core.specs.Calendar.{days_in_month}
 use Rattle.jiff_core.proofs.CalendarLemmas.{days_in_month_bounds}
 use Rattle.irig_codes.specs.Format.{FormatView}
 use Rattle.irig_times.specs.{declared.time.Time.Time, Laws.IsOfCalendar}
-use Rattle.irig_times.proofs.KeptTimes.{timed_calendar, timed_minute}
+use Rattle.irig_timed.proofs.Kept.{timed_calendar, timed_minute}
 use Rattle.irig_stamps.specs.Printed.{AreTimes, CalendarTells, OrdinalTells, SecondsTell, day_micros}
 use Rattle.irig_stamps.specs.Texts.{calendar_text, clock_text, date_text, day_seconds, ordinal_text, year_text}
 use Rattle.irig_stamps.specs.{Dates.counted_on, Dates.date_after, Dates.date_from, Dates.date_in, Dates.year_in, declared.settings.Settings.Settings}
@@ -133,15 +133,15 @@ ordinal-parts x y h (Some m) (Some n) k a b e =
 module _ (f : FormatView) (s : Settings) (x y : Time) (are : AreTimes f s x y) where
   short : AreShort x y
   short = record {
-    first = (timed_calendar f s.alone s.century are.micros are.pulses are.d are.n x are.first).0;
-    second = (timed_calendar f s.alone s.century are.micros are.pulses are.d are.m y are.second).0;
-    micros = timed_minute f s.alone s.century are.micros are.pulses are.track are.d are.some are.n x are.first;
-    also = timed_minute f s.alone s.century are.micros are.pulses are.track are.d are.some are.m y are.second;
+    first = (timed_calendar f s.alone s.century are.pulses are.d are.n x are.first).0;
+    second = (timed_calendar f s.alone s.century are.pulses are.d are.m y are.second).0;
+    micros = timed_minute f s.alone s.century are.pulses are.d are.n x are.first;
+    also = timed_minute f s.alone s.century are.pulses are.d are.m y are.second;
   }
 
   same-field : is_some x.year ≡ is_some y.year
-  same-field = (timed_calendar f s.alone s.century are.micros are.pulses are.d are.n x are.first).1
-      ∙ sym (timed_calendar f s.alone s.century are.micros are.pulses are.d are.m y are.second).1
+  same-field = (timed_calendar f s.alone s.century are.pulses are.d are.n x are.first).1
+      ∙ sym (timed_calendar f s.alone s.century are.pulses are.d are.m y are.second).1
 
   same-known : is_some (year_in s x) ≡ is_some (year_in s y)
   same-known = year-known s x y x.year y.year same-field

@@ -7,10 +7,33 @@ use Rattle.irig_recording.specs.declared.pulse.Pulse.{Pulse}
 use Rattle.irig_track.specs.Track.{IsLongTrack}
 use Rattle.irig_track.specs.Splices.{risen_by}
 use Rattle.irig_times.specs.declared.why.Why.TheVariants.{Before}
-use Rattle.irig_times.specs.{declared.time.Time.Time, declared.why.Why.Why, Counted.IsTimed, Support.believed, Untimed.IsWhy}
+use Rattle.irig_times.specs.{declared.time.Time.Time, declared.why.Why.Why}
+use Rattle.irig_timed.specs.{Moments.IsMoment, Moments.IsTimed, Reasons.IsWhy, declared.moment.Moment.Moment}
 use Rattle.irig_stamps.specs.{Numbers.capped, Reasons.why_text, Stamps.IsNone, Stamps.IsTimeOf, Stamps.IsWhyOf, Stamps.IsWord, Stamps.added, Stamps.taken, Texts.word_of}
 use Rattle.irig_stamps.specs.{declared.picos.Picos.Picos, declared.settings.Settings.Settings}
 use Rattle.irig_stamps.proofs.Late.{all-risen, none-late}
+
+-- a time and its bound
+abbrev moment : Time → ℕ → Moment
+moment t b = record { time = t; bound = b }
+
+-- the time of a moment without its bound
+module _ (f : FormatView) (alone : Bool) (century : ℕ) (ps : List Pulse) (d n : ℕ) (result : Option Moment)
+    (exact : (t : Time) (b : ℕ) → (result ≡ Some (moment t b)) ↔ IsMoment f alone century ps d n t b) where
+  pub timed-some : (m : Moment) → result ≡ Some m → (x : Time) → (Some m.time ≡ Some x) ↔ IsTimed f alone century ps d n x
+  timed-some m is x = (
+    λ e. (m.bound, (exact x m.bound).0 (is ∙ ap (λ (t : Time). Some (moment t m.bound)) (same_Some m.time x e))),
+    λ h. ap (λ (o : Option Moment). option_map (λ (k : Moment). k.time) o) (sym is ∙ (exact x h.0).1 h.1),
+  )
+
+  pub timed-none : result ≡ None → (x : Time) → (None ≡ Some x) ↔ IsTimed f alone century ps d n x
+  timed-none is x = (λ e. absurd (none-some x e), λ h. absurd (none-some (moment x h.0) (sym is ∙ (exact x h.0).1 h.1)))
+
+pub timed-there : (f : FormatView) (alone : Bool) (century : ℕ) (ps : List Pulse) (d n : ℕ) (result : Option Moment)
+    → ((t : Time) (b : ℕ) → (result ≡ Some (moment t b)) ↔ IsMoment f alone century ps d n t b) → (result ≡ None → ⊥)
+    → (x : Time) × IsTimed f alone century ps d n x
+timed-there f alone century ps d n None exact some = absurd (some refl)
+timed-there f alone century ps d n (Some m) exact some = (m.time, (m.bound, (exact m.time m.bound).0 refl))
 
 module _ (f : FormatView) (ps : List Pulse) (s : Settings) where
   -- the word of a time that was found
@@ -98,19 +121,19 @@ module _ (f : FormatView) (ps : List Pulse) (s : Settings) where
       let k = spans-capped picos v add take e h in (
         λ is. absurd (none-some x is),
         λ is. absurd (late-late s.early v.negative v.size s.offset add take small k.0 k.1 late
-            (none-late f s.alone s.century micros s.micros ps track (added s v - taken s v) x is.1)),
+            (none-late f s.alone s.century micros ps track (added s v - taken s v) x is.1)),
       )
 
   -- each greatest number has no time, so it stands for all that are further from zero
   pub time-exact : (picos : Picos) (add take : ℕ) (result : Option Time) → s.offset ≤ 2 ^ 119 → Spans picos add take → take ≤ add → add - take < 2 ^ 62
-      → ((x : Time) → (result ≡ Some x) ↔ IsTimed f s.alone s.century s.micros ps 1000000 (add - take) x)
+      → ((x : Time) → (result ≡ Some x) ↔ IsTimed f s.alone s.century ps 1000000 (add - take) x)
       → (v : Picos) → picos ≡ capped v → (x : Time) → (result ≡ Some x) ↔ IsTimeOf f ps s v x
   time-exact picos add take result small h le near is v e x =
       let k = spans-capped picos v add take e h in
       let same = near-same s.early v.negative v.size s.offset add take small k.0 k.1 le near in
       let span : add - take ≡ added s v - taken s v = omega (arith, same.0, same.1) in (
-        λ r. (omega (arith, same.0, same.1, le), subst (λ n. IsTimed f s.alone s.century s.micros ps 1000000 n x) span ((is x).0 r)),
-        λ t. (is x).1 (subst (λ n. IsTimed f s.alone s.century s.micros ps 1000000 n x) (sym span) t.1),
+        λ r. (omega (arith, same.0, same.1, le), subst (λ n. IsTimed f s.alone s.century ps 1000000 n x) span ((is x).0 r)),
+        λ t. (is x).1 (subst (λ n. IsTimed f s.alone s.century ps 1000000 n x) (sym span) t.1),
       )
 
   -- the reason before the start of the track
@@ -125,20 +148,17 @@ module _ (f : FormatView) (ps : List Pulse) (s : Settings) where
 
   -- the reason within 2^62 picoseconds
   pub why-exact : (picos : Picos) (add take : ℕ) (why : Why) → s.offset ≤ 2 ^ 119 → Spans picos add take → take ≤ add → add - take < 2 ^ 62
-      → IsWhy f (believed f s.alone ps) s.century ps (risen_by ((add - take) / 1000000) ps) why → (v : Picos) → picos ≡ capped v → IsWhyOf f ps s v why
+      → IsWhy f s.alone s.century ps (risen_by ((add - take) / 1000000) ps) why → (v : Picos) → picos ≡ capped v → IsWhyOf f ps s v why
   why-exact picos add take why small h le near is v e =
       let k = spans-capped picos v add take e h in
       let same = near-same s.early v.negative v.size s.offset add take small k.0 k.1 le near in
       let span : add - take ≡ added s v - taken s v = omega (arith, same.0, same.1) in
-      inr (
-        omega (arith, same.0, same.1, le),
-        subst (λ n. IsWhy f (believed f s.alone ps) s.century ps (risen_by (n / 1000000) ps) why) span is,
-      )
+      inr (omega (arith, same.0, same.1, le), subst (λ n. IsWhy f s.alone s.century ps (risen_by (n / 1000000) ps) why) span is)
 
   -- the reason later than that
   pub why-late : (micros : ℕ) (picos : Picos) (add take : ℕ) (why : Why) → IsLongTrack micros ps → s.offset ≤ 2 ^ 119 → Spans picos add take
       → 2 ^ 62 ≤ add - take
-      → IsWhy f (believed f s.alone ps) s.century ps (risen_by (4611686018427387904 / 1000000) ps) why → (v : Picos) → picos ≡ capped v → IsWhyOf f ps s v why
+      → IsWhy f s.alone s.century ps (risen_by (4611686018427387904 / 1000000) ps) why → (v : Picos) → picos ≡ capped v → IsWhyOf f ps s v why
   why-late micros picos add take why track small h late is v e =
       let k = spans-capped picos v add take e h in
       let since = added s v - taken s v in
@@ -147,5 +167,5 @@ module _ (f : FormatView) (ps : List Pulse) (s : Settings) where
         | inr far ↦
             let end : 2 ^ 40 ≤ since / 1000000 = omega (arith, far) in
             let same = all-risen micros (4611686018427387904 / 1000000) ps track (omega arith) ∙ sym (all-risen micros (since / 1000000) ps track end) in
-            inr (omega (arith, far), subst (λ n. IsWhy f (believed f s.alone ps) s.century ps n why) same is)
+            inr (omega (arith, far), subst (λ n. IsWhy f s.alone s.century ps n why) same is)
       ]

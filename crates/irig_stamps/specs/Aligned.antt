@@ -9,10 +9,9 @@ use Rattle.irig_track.specs.Edges.{edges_of}
 use Rattle.irig_stamps.specs.declared.fault.RunFault.TheVariants.{OutOfMemory}
 use Rattle.irig_stamps.specs.declared.settings.Settings.{Settings}
 use Rattle.irig_stamps.specs.{Dates.doubted, Runs.Ends, declared.fault.RunFault.RunFault}
-use Rattle.irig_stamps.specs.TrackSettings.{day_of, with_track}
+use Rattle.irig_stamps.specs.TrackSettings.{day_of, held_of, with_track}
 use Rattle.irig_stamps.specs.{Named.Finds, declared.outcome.Outcome.Outcome}
 use Rattle.irig_stamps.specs.{declared.outcome.Standing.Standing, declared.tally.Tally.Tally}
-use Rattle.irig_times.specs.Support.{believed}
 
 -- whether a frame of a track is believed, and how many have a time and are not
 abbrev pub standing : Bool → ℕ → Standing
@@ -20,7 +19,7 @@ standing timed doubted = record { timed = timed; doubted = doubted }
 
 abbrev pub standing_of : FormatView → List Pulse → Settings → Standing
 standing_of f ps s =
-    standing (is_some (day_of f ps s)) (doubted f (believed f s.alone ps) 0 (frames f ps))
+    standing (is_some (day_of f ps s)) (doubted f (held_of f ps s) 0 (frames f ps))
 
 -- the outcome of a run: what is counted of its lines, and which frames are believed
 abbrev pub outcome : Tally → Standing → Outcome

@@ -1,9 +1,8 @@
 -- The stretches of a track without a time. This project's own.
-use Rattle.std.specs.Prelude.{◌≡◌, ◌≢◌, ◌⊎◌, ◌↔◌, ◌*◌, ◌<◌, ◌≤◌, ℕ, Bool, List, [], ◌∷◌}
-use Rattle.irig_codes.specs.Format.{FormatView}
+use Rattle.std.specs.Prelude.{◌≡◌, ◌≢◌, ◌⊎◌, ◌↔◌, ◌*◌, ◌<◌, ◌≤◌, ℕ, List, [], ◌∷◌}
 use Rattle.irig_recording.specs.declared.pulse.Pulse.{Pulse}
 use Rattle.irig_track.specs.Splices.{risen_by}
-use Rattle.irig_times.specs.{Untimed.HasNoTime, declared.why.Why.Why}
+use Rattle.irig_times.specs.declared.why.Why.{Why}
 use Rattle.irig_stamps.specs.declared.stretch.Stretch.{Stretch}
 
 -- the moment n / d microseconds after the start is in a stretch
@@ -36,11 +35,6 @@ pub record AreHoles (has_none : ℕ → ℕ → Why → Type 0) (limit : ℕ) (s
   pub within : (d n : ℕ) (why : Why) → IsIn stretches d n why → n < d * limit
   pub exact : (d n : ℕ) (why : Why) → 0 < d → n < d * limit
       → has_none d n why ↔ IsIn stretches d n why
-
--- those of a track
-abbrev pub AreHolesOf : FormatView → Bool → ℕ → ℕ → List Pulse → ℕ → List Stretch → Type 0
-AreHolesOf f alone century micros ps limit stretches =
-    AreHoles (HasNoTime f alone century micros ps) limit stretches
 
 -- from a microsecond on this many pulses have risen, and before it fewer
 pub record HasBegun (ps : List Pulse) (risen begin : ℕ) : Type 0 where

@@ -1,6 +1,6 @@
 -- Stretches without a time are joined, and how long they are. This project's own.
 use Rattle.std.specs.Prelude.{◌==◌, ◌&&◌, ◌+◌, ◌-◌, ℕ, Bool, List, [], ◌∷◌, if◌then◌else◌}
-use Rattle.irig_times.specs.declared.why.Why.TheVariants.{After, Before, Hole, Set, Step, Unbelieved}
+use Rattle.irig_times.specs.declared.why.Why.TheVariants.{After, Before, Hole, Step, Unbelieved}
 use Rattle.irig_times.specs.{declared.why.Why.Why}
 use Rattle.irig_stamps.specs.declared.stretch.Stretch.{Stretch}
 
@@ -15,7 +15,6 @@ number_of After = 1
 number_of Hole = 2
 number_of Step = 3
 number_of Unbelieved = 4
-number_of Set = 5
 
 -- some stretches, from the last to the first, with one more: joined to the last, if it touches it
 -- and has its reason

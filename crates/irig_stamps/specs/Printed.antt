@@ -1,24 +1,21 @@
 -- What the digits of a printed time show of it: two moments of a track whose times are printed
 -- alike. This project's own.
-use Rattle.std.specs.Prelude.{◌≡◌, ◌≢◌, ℕ, ◌+◌, ◌*◌, ◌<◌, ◌≤◌, List, [], ◌∷◌, IfSome}
+use Rattle.std.specs.Prelude.{◌≡◌, ◌≢◌, ℕ, ◌+◌, ◌*◌, ◌≤◌, List, [], ◌∷◌, IfSome}
 use Rattle.irig_codes.specs.Format.{FormatView}
 use Rattle.irig_recording.specs.declared.pulse.Pulse.{Pulse}
-use Rattle.irig_track.specs.Track.{IsLongTrack}
-use Rattle.irig_times.specs.{declared.time.Time.Time, Counted.IsTimed}
+use Rattle.irig_times.specs.declared.time.Time.{Time}
+use Rattle.irig_timed.specs.Moments.{IsTimed}
 use Rattle.irig_stamps.specs.Texts.{calendar_text, ordinal_text, seconds_text}
 use Rattle.irig_stamps.specs.{Dates.year_in, declared.settings.Settings.Settings}
 
 -- two times of a track, n / d and m / d microseconds after its start, and settings within limits
 pub record AreTimes (f : FormatView) (s : Settings) (x y : Time) : Type 0 where
-  pub micros : ℕ
   pub pulses : List Pulse
-  pub track : IsLongTrack micros pulses
   pub d : ℕ
-  pub some : 0 < d
   pub n : ℕ
   pub m : ℕ
-  pub first : IsTimed f s.alone s.century micros pulses d n x
-  pub second : IsTimed f s.alone s.century micros pulses d m y
+  pub first : IsTimed f s.alone s.century pulses d n x
+  pub second : IsTimed f s.alone s.century pulses d m y
   pub century : s.century ≤ 99
   pub year : IfSome s.year (λ y. y ≤ 9998)
 

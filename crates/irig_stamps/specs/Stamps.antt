@@ -5,8 +5,9 @@ use Rattle.std.specs.Prelude.{if◌then◌else◌}
 use Rattle.irig_codes.specs.Format.{FormatView}
 use Rattle.irig_recording.specs.declared.pulse.Pulse.{Pulse}
 use Rattle.irig_track.specs.Splices.{risen_by}
-use Rattle.irig_times.specs.{declared.time.Time.Time, declared.why.Why.Why, Counted.IsTimed}
-use Rattle.irig_times.specs.{Support.believed, Untimed.IsWhy, declared.why.Why.TheVariants.Before}
+use Rattle.irig_times.specs.{declared.time.Time.Time, declared.why.Why.Why}
+use Rattle.irig_times.specs.declared.why.Why.TheVariants.{Before}
+use Rattle.irig_timed.specs.{Moments.IsTimed, Reasons.IsWhy}
 use Rattle.irig_stamps.specs.Reasons.{why_text}
 use Rattle.irig_stamps.specs.{declared.picos.Picos.Picos, declared.settings.Settings.Settings}
 use Rattle.irig_stamps.specs.{Columns.column_of, Numbers.number_in, Texts.word_of}
@@ -23,19 +24,18 @@ added s v = (if v.negative then 0 else v.size) + (if s.early then s.offset else 
 abbrev pub taken : Settings → Picos → ℕ
 taken s v = (if v.negative then v.size else 0) + (if s.early then 0 else s.offset)
 
--- the time of year at the recorder's time v, by the frames that are believed and the pulses that
--- are counted from them
+-- the time of year at the recorder's time v, by the law of time
 abbrev pub IsTimeOf : FormatView → List Pulse → Settings → Picos → Time → Type 0
 IsTimeOf f ps s v x =
     (taken s v ≤ added s v)
-    × IsTimed f s.alone s.century s.micros ps 1000000 (added s v - taken s v) x
+    × IsTimed f s.alone s.century ps 1000000 (added s v - taken s v) x
 
 -- why there is no time of year at the recorder's time v: it is before the start of the track, or by
 -- the pulses around it
 abbrev pub IsWhyOf : FormatView → List Pulse → Settings → Picos → Why → Type 0
 IsWhyOf f ps s v why =
     ((added s v < taken s v) × (why ≡ Before))
-    ⊎ ((taken s v ≤ added s v) × IsWhy f (believed f s.alone ps) s.century ps
+    ⊎ ((taken s v ≤ added s v) × IsWhy f s.alone s.century ps
     (risen_by ((added s v - taken s v) / 1000000) ps) why)
 
 -- the word of no time: a hyphen, or why there is none, if that is asked for

@@ -2,7 +2,6 @@
 use Rattle.std.specs.Prelude.{◌≡◌, ◌⊎◌, ℕ, ◌++◌, Bool, true, false, List, [], ◌∷◌, Option, Some}
 use Rattle.std.specs.Prelude.{None, Result, Ok, Err, codes, decimal, unwrap_or, slice_get, suc}
 use Rattle.std.specs.Io.KnownBytes.{Appends}
-use Rattle.irig_times.specs.Support.{believed}
 use Rattle.irig_stamps.specs.declared.outcome.Standing.{Standing}
 use Rattle.irig_codes.specs.Format.{FormatView}
 use Rattle.irig_index.specs.{Frames.frames, declared.record.Record.Record}
@@ -11,7 +10,7 @@ use Rattle.irig_track.specs.Edges.{edges_of}
 use Rattle.irig_times.specs.{Starts.IsStartOf, declared.start.FrameStart.FrameStart}
 use Rattle.irig_stamps.specs.declared.fault.RunFault.TheVariants.{PrintFailed, OutOfMemory}
 use Rattle.irig_stamps.specs.{Aligned.standing_of, Front.AppendsFront}
-use Rattle.irig_stamps.specs.TrackSettings.{with_first_day}
+use Rattle.irig_stamps.specs.TrackSettings.{held_of, with_first_day}
 use Rattle.irig_stamps.specs.{Texts.word_of, declared.fault.RunFault.RunFault}
 use Rattle.irig_stamps.specs.declared.settings.Settings.{Settings}
 
@@ -39,7 +38,7 @@ IsTable f ps s place [] text = text ≡ []
 IsTable f ps s place (r ∷ rs) text =
     (start : Option FrameStart) × (rest : List ℕ) × IsStartOf f s.century ps r start
     × (IsTable f ps s (suc place) rs rest
-    × (text ≡ row_of s (slice_get (believed f s.alone ps) place) start ++ rest))
+    × (text ≡ row_of s (slice_get (held_of f ps s) place) start ++ rest))
 
 -- the table was printed, and it is known whether a frame has a time; or only a front of it, if the
 -- output failed; or nothing, if memory ran out

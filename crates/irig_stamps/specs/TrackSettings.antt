@@ -1,14 +1,18 @@
 -- The settings with what a track adds to them. This project's own.
-use Rattle.std.specs.Prelude.{ℕ, List, Option, unwrap_or}
+use Rattle.std.specs.Prelude.{ℕ, Bool, List, Option, unwrap_or}
 use Rattle.irig_codes.specs.Format.{FormatView}
 use Rattle.irig_index.specs.Frames.{frames}
 use Rattle.irig_recording.specs.declared.pulse.Pulse.{Pulse}
 use Rattle.irig_stamps.specs.{Dates.first_day, declared.settings.Settings.Settings}
-use Rattle.irig_times.specs.Support.{believed}
+use Rattle.irig_timed.specs.Held.{held}
 
--- the day of the first frame of a track that is believed
+-- of each record of a track, whether its frame is believed
+abbrev pub held_of : FormatView → List Pulse → Settings → List Bool
+held_of f ps s = held f s.alone s.century ps
+
+-- the day of the first frame that is
 abbrev pub day_of : FormatView → List Pulse → Settings → Option ℕ
-day_of f ps s = first_day f (believed f s.alone ps) 0 (frames f ps)
+day_of f ps s = first_day f (held_of f ps s) 0 (frames f ps)
 
 -- the settings with that day; 0 if none is
 abbrev pub with_first_day : FormatView → List Pulse → Settings → Settings

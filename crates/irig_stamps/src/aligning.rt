@@ -9,14 +9,14 @@ ghost use Rattle.irig_stamps.specs.{Runs.Ends, TrackSettings.with_track};
 use crate::fault::RunFault;
 use crate::finding::find;
 use crate::first_day::{count_doubted, first_day};
-use crate::knowledge::known_of;
 use crate::outcome::{Outcome, Standing};
 use crate::running::run;
 use crate::settings::Settings;
 use irig_codes::Format;
 use irig_index::Index;
 use irig_recording::LongRecording;
-use irig_times::{FrameLens, held_frames};
+use irig_timed::Known;
+use irig_times::FrameLens;
 use irig_track::Lens;
 use std::alloc::Global;
 use std::io::{Read, Write};
@@ -123,19 +123,17 @@ fn align_track<R: Read, W: Write>(
         return Err(RunFault::OutOfMemory);
     };
     let mut records = FrameLens::new(&index);
-    let Ok(held) = held_frames(alloc, pulses, &mut records, format, settings.alone) else {
+    let (century, alone) = (settings.century, settings.alone);
+    let Ok(known) = Known::of(alloc, pulses, &mut records, format, century, alone) else {
         return Err(RunFault::OutOfMemory);
     };
-    let day = first_day(&mut records, &held, format);
-    let doubted = count_doubted(&mut records, &held, format);
+    let day = first_day(&mut records, &known.held, format);
+    let doubted = count_doubted(&mut records, &known.held, format);
     // If no frame is believed, no line has a time, and the day does not count.
     let settings = Settings {
         first_day: day.unwrap_or(0),
         micros,
         ..*settings
-    };
-    let Ok(known) = known_of(alloc, pulses, &mut records, &held, format, &settings) else {
-        return Err(RunFault::OutOfMemory);
     };
     match run(alloc, before, lines, out, pulses, &known, format, &settings) {
         Ok(tally) => Ok(Outcome {

@@ -1,9 +1,9 @@
 //! The stretches of a track without a time are listed.
 
-ghost use Rattle.std.specs.Prelude.{◌≡◌, ◌≤◌, IfOk, length};
-ghost use Rattle.irig_index.specs.Frames.{frames};
-ghost use Rattle.irig_times.specs.{Support.believed, Untimed.HasNoTime};
+ghost use Rattle.std.specs.Prelude.{◌≤◌, IfOk};
+ghost use Rattle.irig_timed.specs.Reasons.{HasNoTime};
 ghost use Rattle.irig_stamps.specs.HoleTexts.{IsText, ListsHoles, ListsHolesRecording};
+ghost use Rattle.irig_stamps.specs.Reasons.{IsKnownOf};
 
 use crate::fault::RunFault;
 use crate::first_day::{count_doubted, first_day};
@@ -15,7 +15,8 @@ use crate::untimed::walk;
 use irig_codes::Format;
 use irig_index::Index;
 use irig_recording::LongRecording;
-use irig_times::{FrameLens, find_whys, held_frames, timed_parts};
+use irig_timed::Known;
+use irig_times::FrameLens;
 use irig_track::Lens;
 use std::alloc::{AllocError, Global};
 use std::io::Write;
@@ -60,44 +61,42 @@ fn list_track<W: Write>(
         return Err(RunFault::OutOfMemory);
     };
     let mut records = FrameLens::new(&index);
-    let Ok(held) = held_frames(alloc, pulses, &mut records, format, settings.alone) else {
+    let (century, alone) = (settings.century, settings.alone);
+    let Ok(known) = Known::of(alloc, pulses, &mut records, format, century, alone) else {
         return Err(RunFault::OutOfMemory);
     };
     let standing = Standing {
-        timed: first_day(&mut records, &held, format).is_some(),
-        doubted: count_doubted(&mut records, &held, format),
+        timed: first_day(&mut records, &known.held, format).is_some(),
+        doubted: count_doubted(&mut records, &known.held, format),
     };
-    let Ok((text, untimed)) = hole_text(alloc, pulses, &mut records, &held, format, settings, json)
-    else {
+    let Ok((text, untimed, count)) = hole_text(alloc, pulses, &known, format, settings, json) else {
         return Err(RunFault::OutOfMemory);
     };
     match put_all(out, &text) {
-        Ok(()) => Ok(Holes { untimed, standing }),
+        Ok(()) => Ok(Holes {
+            untimed,
+            count,
+            standing,
+        }),
         Err(why) => Err(RunFault::PrintFailed(why)),
     }
 }
 
-/// The rows of the stretches, and how many microseconds they have.
+/// The rows of the stretches, how many microseconds they have, and how many they are.
 fn hole_text(
     alloc: Global,
     pulses: &mut Lens<'_>,
-    records: &mut FrameLens<'_>,
-    held: &[bool],
+    known: &Known,
     format: Format,
     settings: &Settings<'_>,
     json: bool,
-) -> Result<(Vec<u8>, u64), AllocError>
-    requires frames { records.old.records ≡ frames format pulses.old.track.pulses }
-    requires held { held.now ≡ believed format settings.now.alone pulses.old.track.pulses }
-    requires each { length held.now ≡ length records.old.records }
+) -> Result<(Vec<u8>, u64, u64), AllocError>
+    requires known { IsKnownOf format settings.now pulses.old.track.pulses known.now }
     requires century { settings.now.century ≤ 99 }
     ensures { IfOk result (λ ended. IsText (HasNoTime format settings.now.alone
-        settings.now.century pulses.old.track.micros pulses.old.track.pulses) json
-        settings.now.comma pulses.old.track.micros ended.0.items ended.1) }
+        settings.now.century pulses.old.track.pulses) json settings.now.comma
+        pulses.old.track.micros ended.0.items ended.1 ended.2) }
 {
-    let century = settings.century;
-    let parts = timed_parts(alloc, pulses, records, held, format, century)?;
-    let whys = find_whys(alloc, pulses, records, held, format, century)?;
-    let pending = walk(alloc, pulses, &parts, &whys, format, settings, json)?;
+    let pending = walk(alloc, pulses, known, format, settings, json)?;
     pending.finish(json, settings.comma)
 }

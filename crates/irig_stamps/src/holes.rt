@@ -7,5 +7,7 @@ use crate::outcome::Standing;
 pub struct Holes {
     /// The microseconds of the stretches without a time; 2^64 - 1 means that or more.
     pub untimed: u64,
+    /// How many stretches these are.
+    pub count: u64,
     pub standing: Standing,
 }

@@ -12,7 +12,6 @@ mod header;
 mod header_unit;
 mod hole_list;
 mod holes;
-mod knowledge;
 mod law;
 mod look;
 mod moment;

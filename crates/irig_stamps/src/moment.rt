@@ -1,17 +1,16 @@
 //! The time of year at a recorder's time, or why it has none.
 
 ghost use Rattle.std.specs.Prelude.{◌≡◌, ◌↔◌, ◌<◌, ◌≤◌, ◌^◌, ◌-◌, Option, Some, min, option_map};
-ghost use Rattle.irig_times.specs.Counted.{timed_parts};
 ghost use Rattle.irig_times.specs.declared.time.Time.{Time};
-ghost use Rattle.irig_times.specs.{Support.believed, Untimed.IsKnown};
-ghost use Rattle.irig_stamps.specs.{Looks.moment_of};
+ghost use Rattle.irig_stamps.specs.{Looks.moment_of, Reasons.IsKnownOf};
 ghost use Rattle.irig_stamps.specs.Stamps.{IsTimeOf, IsWhyOf, added, taken};
 ghost use Rattle.irig_stamps.specs.{Numbers.capped, declared.picos.Picos.Picos};
 
 use crate::picos::Picos;
 use crate::settings::Settings;
 use irig_codes::Format;
-use irig_times::{Part, Time, Why, Whys, time_by, why_at};
+use irig_timed::{Known, time_at, why_at};
+use irig_times::{Time, Why};
 use irig_track::Lens;
 
 /// A moment so late, in picoseconds after the start of a track, has no time: 2^62.
@@ -64,13 +63,12 @@ pub fn moment_of(settings: &Settings<'_>, number: Option<Picos>) -> Option<u128>
 /// starts, or is later than any track is long (`LATE`).
 pub fn time_of(
     pulses: &mut Lens<'_>,
-    parts: &[Part],
+    known: &Known,
     format: Format,
     settings: &Settings<'_>,
     picos: Picos,
 ) -> Option<Time>
-    requires parts { parts.now ≡ timed_parts format settings.now.alone
-        settings.now.century settings.now.micros pulses.old.track.pulses }
+    requires known { IsKnownOf format settings.now pulses.old.track.pulses known.now }
     requires century { settings.now.century ≤ 99 }
     requires offset { settings.now.offset ≤ 2 ^ 119 }
     ensures exact { (v : Picos) → picos ≡ capped v → (x : Time) → (result ≡ Some x)
@@ -87,20 +85,22 @@ pub fn time_of(
     if since >= LATE {
         return None;
     }
-    time_by(pulses, parts, format, settings.century, since as u64)
+    match time_at(pulses, known, format, settings.century, since as u64) {
+        Some(moment) => Some(moment.time),
+        None => None,
+    }
 }
 
 /// Why a recorder's time has no time of year: `Before` if it is before the track starts, else what
 /// `why_at` gives for its moment.
 pub fn why_of(
     pulses: &mut Lens<'_>,
-    whys: &Whys,
+    known: &Known,
     format: Format,
     settings: &Settings<'_>,
     picos: Picos,
 ) -> Why
-    requires whys { IsKnown format (believed format settings.now.alone pulses.old.track.pulses)
-        settings.now.century pulses.old.track.pulses whys.now }
+    requires known { IsKnownOf format settings.now pulses.old.track.pulses known.now }
     requires offset { settings.now.offset ≤ 2 ^ 119 }
     ensures why { (v : Picos) → picos ≡ capped v
         → IsWhyOf format pulses.old.track.pulses settings.now v result }
@@ -114,7 +114,7 @@ pub fn why_of(
     }
     let since = added - taken;
     if since >= LATE {
-        return why_at(pulses, whys, format, END);
+        return why_at(pulses, known, format, END);
     }
-    why_at(pulses, whys, format, since as u64)
+    why_at(pulses, known, format, since as u64)
 }

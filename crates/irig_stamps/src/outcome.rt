@@ -2,8 +2,8 @@
 
 use crate::tally::Tally;
 
-/// Which frames of a track are believed: those whose time another frame near them supports, or all
-/// that have a time, if the settings say so (`alone`).
+/// Which frames of a track are believed by the law of time; with `alone` of the settings all that
+/// have a time.
 #[derive(Clone, Copy)]
 pub struct Standing {
     /// Whether at least one is believed.

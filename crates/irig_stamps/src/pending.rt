@@ -1,6 +1,7 @@
 //! The stretches without a time that are found so far.
 
-ghost use Rattle.std.specs.Prelude.{◌≡◌, ◌≤◌, ◌+◌, ◌-◌, ◌^◌, ◌++◌, [], List, None, IfOk, OnOk, min};
+ghost use Rattle.std.specs.Prelude.{◌≡◌, ◌≤◌, ◌+◌, ◌-◌, ◌^◌, ◌++◌, [], List, None, IfOk, OnOk};
+ghost use Rattle.std.specs.Prelude.{length, min};
 ghost use Rattle.irig_stamps.specs.declared.stretch.Stretch.{Stretch};
 ghost use Rattle.irig_stamps.specs.Joined.{number_of, touches, with_more};
 ghost use Rattle.irig_stamps.specs.HoleRows.{hole_row, json_end, json_row, json_span, plain_end};
@@ -19,6 +20,7 @@ pub struct Pending {
     text: Vec<u8>,
     last: Option<Stretch>,
     untimed: u64,
+    count: u64,
 }
 
 impl Pending {
@@ -26,11 +28,13 @@ impl Pending {
         ensures text { result.text.items ≡ [] }
         ensures last { result.last ≡ None }
         ensures untimed { result.untimed ≡ 0 }
+        ensures count { result.count ≡ 0 }
     {
         Pending {
             text: Vec::new(alloc),
             last: None,
             untimed: 0,
+            count: 0,
         }
     }
 
@@ -42,10 +46,15 @@ impl Pending {
             → IsShown json comma self.new.last self.new.text.items (with_more stretches next)) }
         ensures untimed { OnOk result (self.new.untimed
             ≡ min (self.old.untimed + (next.end - next.begin)) (2 ^ 64 - 1)) }
+        ensures count { OnOk result ((stretches : List Stretch)
+            → IsShown json comma self.old.last self.old.text.items stretches
+            → self.old.count ≡ min (length stretches) (2 ^ 64 - 1)
+            → self.new.count ≡ min (length (with_more stretches next)) (2 ^ 64 - 1)) }
     {
         self.untimed = self.untimed.saturating_add(next.end - next.begin);
         let Some(last) = self.last else {
             self.last = Some(next);
+            self.count = 1;
             return Ok(());
         };
         if touches(&last, &next) {
@@ -57,21 +66,23 @@ impl Pending {
         }
         put_row(&mut self.text, json, comma, &last)?;
         self.last = Some(next);
+        self.count = self.count.saturating_add(1);
         Ok(())
     }
 
-    /// The rows of all stretches.
-    pub fn finish(self, json: bool, comma: Option<u8>) -> Result<(Vec<u8>, u64), AllocError>
+    /// The rows of all stretches, how many microseconds these have, and how many they are.
+    pub fn finish(self, json: bool, comma: Option<u8>) -> Result<(Vec<u8>, u64, u64), AllocError>
         ensures rows { IfOk result (λ ended. (stretches : List Stretch)
             → IsShown json comma self.last self.text.items stretches
             → ended.0.items ≡ rows json comma stretches) }
         ensures untimed { IfOk result (λ ended. ended.1 ≡ self.untimed) }
+        ensures count { IfOk result (λ ended. ended.2 ≡ self.count) }
     {
         let mut text = self.text;
         if let Some(last) = self.last {
             put_row(&mut text, json, comma, &last)?;
         }
-        Ok((text, self.untimed))
+        Ok((text, self.untimed, self.count))
     }
 }
 
@@ -90,7 +101,6 @@ fn number_of(why: Why) -> u8
         Why::Hole => 2,
         Why::Step => 3,
         Why::Unbelieved => 4,
-        Why::Set => 5,
     }
 }
 

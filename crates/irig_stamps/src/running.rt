@@ -8,7 +8,6 @@ ghost use Rattle.irig_stamps.specs.Runs.{Ends};
 ghost use Rattle.irig_stamps.specs.Steps.{GoesOn, Underway};
 
 use crate::fault::RunFault;
-use crate::knowledge::Known;
 use crate::printing::{print, stop};
 use crate::progress::Progress;
 use crate::reading::{READ_LIMIT, READS_LIMIT, read_part};
@@ -16,6 +15,7 @@ use crate::settings::Settings;
 use crate::taking::{end_line, take_part};
 use crate::tally::Tally;
 use irig_codes::Format;
+use irig_timed::Known;
 use irig_track::Lens;
 use std::alloc::Global;
 use std::io::{Read, Write};

@@ -39,7 +39,7 @@ pub struct Settings<'a> {
     pub first_day: u32,
     /// How long the track is, in microseconds.
     pub micros: u64,
-    /// Whether each fine frame is believed, and not only those that another one supports.
+    /// Whether each fine frame is believed.
     pub alone: bool,
     /// Whether a word says why a line has no time.
     pub why: bool,

@@ -5,12 +5,12 @@ ghost use Rattle.irig_stamps.specs.{Stamps.IsNone, Stamps.IsWord, StampTexts.sta
 ghost use Rattle.irig_stamps.specs.Reasons.{IsKnownOf, why_text};
 ghost use Rattle.irig_stamps.specs.{Numbers.capped, declared.picos.Picos.Picos};
 
-use crate::knowledge::Known;
 use crate::moment::{time_of, why_of};
 use crate::picos::Picos;
 use crate::settings::Settings;
 use crate::text::put_time_or_hyphen;
 use irig_codes::Format;
+use irig_timed::Known;
 use irig_times::{Time, Why};
 use irig_track::Lens;
 use std::alloc::AllocError;
@@ -44,14 +44,14 @@ pub fn stamp_of<'a>(
     let Some(picos) = number else {
         return Stamp::Word(b"-");
     };
-    match time_of(pulses, &known.parts, format, settings, picos) {
+    match time_of(pulses, known, format, settings, picos) {
         Some(time) => Stamp::Time(time),
         None => Stamp::Word(none_word(pulses, known, format, settings, picos)),
     }
 }
 
 /// The word for a recorder's time at which there is no time of year, as the caller has found: the
-/// reason, if `settings.why` asks for it, so that `known.whys` is there; else a hyphen.
+/// reason, if `settings.why` asks for it; else a hyphen.
 fn none_word<'a>(
     pulses: &mut Lens<'_>,
     known: &Known,
@@ -65,9 +65,10 @@ fn none_word<'a>(
         → IsNone settings.now.why format pulses.old.track.pulses settings.now v result.now }
     ensures pulses { pulses.new.track ≡ pulses.old.track }
 {
-    match &known.whys {
-        Some(whys) => why_word(why_of(pulses, whys, format, settings, picos)),
-        None => b"-",
+    if settings.why {
+        why_word(why_of(pulses, known, format, settings, picos))
+    } else {
+        b"-"
     }
 }
 
@@ -76,17 +77,15 @@ pub fn why_word<'a>(why: Why) -> &'a [u8]
     ensures { result.now ≡ why_text why }
 {
     match why {
-        // The moment is before the first frame that has a time, or after the last one.
+        // No pulse before the moment has a time, or none after it.
         Why::Before => b"before",
         Why::After => b"after",
-        // Pulses are missing there, or not in step.
+        // Nothing there shows how the time goes on.
         Why::Hole => b"hole",
-        // The time jumps there: a clock was set, or intervals were lost.
+        // There was an event: a clock was set, or the recorder lost or repeated something.
         Why::Step => b"step",
         // A frame there has a time and is not believed.
         Why::Unbelieved => b"unbelieved",
-        // The times of the frames around are not as far apart as their pulses.
-        Why::Set => b"set",
     }
 }
 

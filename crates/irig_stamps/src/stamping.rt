@@ -9,13 +9,13 @@ ghost use Rattle.irig_stamps.specs.Reasons.{IsKnownOf};
 use crate::columns::{column, width};
 use crate::cutting::is_digit;
 use crate::header_unit::names_other_unit;
-use crate::knowledge::Known;
 use crate::look::Look;
 use crate::moment::moment_of;
 use crate::numbers::number;
 use crate::settings::Settings;
 use crate::stamp::{put_stamp, stamp_of};
 use irig_codes::Format;
+use irig_timed::Known;
 use irig_track::Lens;
 use std::alloc::AllocError;
 

@@ -4,8 +4,7 @@ ghost use Rattle.std.specs.Prelude.{◌≡◌, ◌≤◌, ◌<◌, ◌++◌, ℕ
 ghost use Rattle.std.specs.Prelude.{IfSome, OnOk, Option};
 ghost use Rattle.irig_index.specs.{Frames.frames, declared.record.Record.Record};
 ghost use Rattle.irig_times.specs.{Starts.IsStartOf, declared.start.FrameStart.FrameStart};
-ghost use Rattle.irig_times.specs.Support.{believed};
-ghost use Rattle.irig_stamps.specs.TrackSettings.{with_first_day};
+ghost use Rattle.irig_stamps.specs.TrackSettings.{held_of, with_first_day};
 ghost use Rattle.irig_stamps.specs.Tables.{IsTable, Lists, ListsRecording, answer_of, row_of};
 ghost use Rattle.irig_stamps.specs.Tables.{row_text};
 
@@ -18,7 +17,8 @@ use crate::text::{put_number, put_time_or_hyphen};
 use irig_codes::Format;
 use irig_index::Index;
 use irig_recording::LongRecording;
-use irig_times::{FrameLens, FrameStart, held_frames, start_of};
+use irig_timed::held_frames;
+use irig_times::{FrameLens, FrameStart, start_of};
 use irig_track::Lens;
 use std::alloc::{AllocError, Global};
 use std::io::Write;
@@ -57,7 +57,8 @@ fn list_track<W: Write>(
         return Err(RunFault::OutOfMemory);
     };
     let mut records = FrameLens::new(&index);
-    let Ok(held) = held_frames(alloc, pulses, &mut records, format, settings.alone) else {
+    let (century, alone) = (settings.century, settings.alone);
+    let Ok(held) = held_frames(alloc, pulses, &mut records, format, century, alone) else {
         return Err(RunFault::OutOfMemory);
     };
     let day = first_day(&mut records, &held, format);
@@ -89,7 +90,7 @@ fn table(
     settings: &Settings<'_>,
 ) -> Result<Vec<u8>, AllocError>
     requires frames { records.old.records ≡ frames format pulses.old.track.pulses }
-    requires held { held.now ≡ believed format settings.now.alone pulses.old.track.pulses }
+    requires held { held.now ≡ held_of format pulses.old.track.pulses settings.now }
     requires century { settings.now.century ≤ 99 }
     requires year { IfSome settings.now.year (λ y. y ≤ 9998) }
     ensures { IfOk result (λ text. IsTable format pulses.old.track.pulses settings.now 0
@@ -113,7 +114,7 @@ fn put_frame(
     place: usize,
 ) -> Result<(), AllocError>
     requires frames { records.old.records ≡ frames format pulses.old.track.pulses }
-    requires held { held.now ≡ believed format settings.now.alone pulses.old.track.pulses }
+    requires held { held.now ≡ held_of format pulses.old.track.pulses settings.now }
     requires century { settings.now.century ≤ 99 }
     requires year { IfSome settings.now.year (λ y. y ≤ 9998) }
     requires place { place < length records.old.records }

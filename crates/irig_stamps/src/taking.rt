@@ -5,11 +5,11 @@ ghost use Rattle.irig_stamps.specs.Reasons.{IsKnownOf};
 ghost use Rattle.irig_stamps.specs.Steps.{PushesAs, Takes, TakesAs};
 
 use crate::fault::TakeFault;
-use crate::knowledge::Known;
 use crate::progress::Progress;
 use crate::settings::Settings;
 use crate::stamping::put_line_out;
 use irig_codes::Format;
+use irig_timed::Known;
 use irig_track::Lens;
 use std::alloc::AllocError;
 

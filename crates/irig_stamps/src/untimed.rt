@@ -1,15 +1,17 @@
 //! The stretches of a track without a time are found, from rise to rise.
 
 ghost use Rattle.std.specs.Prelude.{◌≡◌, ◌≤◌, ◌*◌, ◌^◌, None, ℕ, IfOk, IfSome, OnOk};
-ghost use Rattle.irig_times.specs.{Counted.IsTimed, Counted.timed_parts, Support.believed};
-ghost use Rattle.irig_times.specs.{Untimed.HasNoTime, Untimed.IsKnown, declared.time.Time.Time};
+ghost use Rattle.irig_times.specs.declared.time.Time.{Time};
+ghost use Rattle.irig_timed.specs.{Moments.IsTimed, Reasons.HasNoTime};
 ghost use Rattle.irig_stamps.specs.{HoleTexts.IsUpTo, Holes.HasBegun, Holes.IsBetween};
+ghost use Rattle.irig_stamps.specs.Reasons.{IsKnownOf};
 
 use crate::pending::Pending;
 use crate::settings::Settings;
 use crate::stretch::Stretch;
 use irig_codes::Format;
-use irig_times::{Part, Why, Whys, time_by, why_at};
+use irig_timed::{Known, time_at, why_at};
+use irig_times::Why;
 use irig_track::Lens;
 use std::alloc::{AllocError, Global};
 
@@ -20,20 +22,15 @@ const PICOS: u64 = 1_000_000;
 pub fn walk(
     alloc: Global,
     pulses: &mut Lens<'_>,
-    parts: &[Part],
-    whys: &Whys,
+    known: &Known,
     format: Format,
     settings: &Settings<'_>,
     json: bool,
 ) -> Result<Pending, AllocError>
-    requires parts { parts.now ≡ timed_parts format settings.now.alone settings.now.century
-        pulses.old.track.micros pulses.old.track.pulses }
-    requires whys { IsKnown format (believed format settings.now.alone pulses.old.track.pulses)
-        settings.now.century pulses.old.track.pulses whys.now }
+    requires known { IsKnownOf format settings.now pulses.old.track.pulses known.now }
     requires century { settings.now.century ≤ 99 }
     ensures { IfOk result (IsUpTo (HasNoTime format settings.now.alone settings.now.century
-        pulses.old.track.micros pulses.old.track.pulses) json settings.now.comma
-        pulses.old.track.micros) }
+        pulses.old.track.pulses) json settings.now.comma pulses.old.track.micros) }
 {
     let mut pending = Pending::new(alloc);
     let mut begin = 0;
@@ -42,8 +39,7 @@ pub fn walk(
         add_between(
             &mut pending,
             pulses,
-            parts,
-            whys,
+            known,
             format,
             settings,
             json,
@@ -52,41 +48,35 @@ pub fn walk(
         )?;
         begin = end;
     }
-    add_last(pending, pulses, parts, whys, format, settings, json, begin)
+    add_last(pending, pulses, known, format, settings, json, begin)
 }
 
 /// The stretches with what is after the last rise.
 fn add_last(
     mut pending: Pending,
     pulses: &mut Lens<'_>,
-    parts: &[Part],
-    whys: &Whys,
+    known: &Known,
     format: Format,
     settings: &Settings<'_>,
     json: bool,
     begin: u64,
 ) -> Result<Pending, AllocError>
-    requires parts { parts.now ≡ timed_parts format settings.now.alone settings.now.century
-        pulses.old.track.micros pulses.old.track.pulses }
-    requires whys { IsKnown format (believed format settings.now.alone pulses.old.track.pulses)
-        settings.now.century pulses.old.track.pulses whys.now }
+    requires known { IsKnownOf format settings.now pulses.old.track.pulses known.now }
     requires century { settings.now.century ≤ 99 }
     requires between { (risen : ℕ) × IsBetween pulses.old.track.pulses risen begin
         pulses.old.track.micros }
     requires order { begin ≤ pulses.old.track.micros }
     requires up { IsUpTo (HasNoTime format settings.now.alone settings.now.century
-        pulses.old.track.micros pulses.old.track.pulses) json settings.now.comma begin
+        pulses.old.track.pulses) json settings.now.comma begin
         pending }
     ensures { IfOk result (IsUpTo (HasNoTime format settings.now.alone settings.now.century
-        pulses.old.track.micros pulses.old.track.pulses) json settings.now.comma
-        pulses.old.track.micros) }
+        pulses.old.track.pulses) json settings.now.comma pulses.old.track.micros) }
 {
     let end = pulses.length();
     add_between(
         &mut pending,
         pulses,
-        parts,
-        whys,
+        known,
         format,
         settings,
         json,
@@ -101,32 +91,28 @@ fn add_last(
 fn add_between(
     pending: &mut Pending,
     pulses: &mut Lens<'_>,
-    parts: &[Part],
-    whys: &Whys,
+    known: &Known,
     format: Format,
     settings: &Settings<'_>,
     json: bool,
     begin: u64,
     end: u64,
 ) -> Result<(), AllocError>
-    requires parts { parts.now ≡ timed_parts format settings.now.alone settings.now.century
-        pulses.old.track.micros pulses.old.track.pulses }
-    requires whys { IsKnown format (believed format settings.now.alone pulses.old.track.pulses)
-        settings.now.century pulses.old.track.pulses whys.now }
+    requires known { IsKnownOf format settings.now pulses.old.track.pulses known.now }
     requires century { settings.now.century ≤ 99 }
     requires between { (risen : ℕ) × IsBetween pulses.old.track.pulses risen begin end }
     requires order { begin ≤ end }
     requires small { end ≤ 2 ^ 40 }
     ensures grown { OnOk result (IsUpTo (HasNoTime format settings.now.alone settings.now.century
-        pulses.old.track.micros pulses.old.track.pulses) json settings.now.comma begin pending.old
+        pulses.old.track.pulses) json settings.now.comma begin pending.old
         → IsUpTo (HasNoTime format settings.now.alone settings.now.century
-        pulses.old.track.micros pulses.old.track.pulses) json settings.now.comma end pending.new) }
+        pulses.old.track.pulses) json settings.now.comma end pending.new) }
     ensures pulses { pulses.new.track ≡ pulses.old.track }
 {
     if begin == end {
         return Ok(());
     }
-    match why_untimed(pulses, parts, whys, format, settings, begin) {
+    match why_untimed(pulses, known, format, settings, begin) {
         None => Ok(()),
         Some(why) => pending.add(json, settings.comma, Stretch { begin, end, why }),
     }
@@ -135,28 +121,24 @@ fn add_between(
 /// Why a microsecond has no time at its begin; `None` if it has one.
 fn why_untimed(
     pulses: &mut Lens<'_>,
-    parts: &[Part],
-    whys: &Whys,
+    known: &Known,
     format: Format,
     settings: &Settings<'_>,
     at: u64,
 ) -> Option<Why>
-    requires parts { parts.now ≡ timed_parts format settings.now.alone settings.now.century
-        pulses.old.track.micros pulses.old.track.pulses }
-    requires whys { IsKnown format (believed format settings.now.alone pulses.old.track.pulses)
-        settings.now.century pulses.old.track.pulses whys.now }
+    requires known { IsKnownOf format settings.now pulses.old.track.pulses known.now }
     requires century { settings.now.century ≤ 99 }
     requires small { at ≤ 2 ^ 40 }
     ensures timed { result ≡ None → (x : Time) × IsTimed format settings.now.alone
-        settings.now.century pulses.old.track.micros pulses.old.track.pulses 1000000
+        settings.now.century pulses.old.track.pulses 1000000
         (1000000 * at) x }
     ensures why { IfSome result (HasNoTime format settings.now.alone settings.now.century
-        pulses.old.track.micros pulses.old.track.pulses 1000000 (1000000 * at)) }
+        pulses.old.track.pulses 1000000 (1000000 * at)) }
     ensures pulses { pulses.new.track ≡ pulses.old.track }
 {
     let picos = PICOS * at;
-    match time_by(pulses, parts, format, settings.century, picos) {
+    match time_at(pulses, known, format, settings.century, picos) {
         Some(_) => None,
-        None => Some(why_at(pulses, whys, format, picos)),
+        None => Some(why_at(pulses, known, format, picos)),
     }
 }

@@ -33,7 +33,7 @@ help_text = codes "Usage: irig_time [OPTIONS] <TRACK>\n\nArguments:\n"
 -- what is printed if the words ask for the version
 abbrev pub version_text : List ℕ
 version_text = codes "irig_time has the version of the tools that were installed with it: "
-    ++ codes "irig_align --version\n"
+    ++ codes "irig_mend --version\n"
 
 -- the words ask for the version: after the program's name there is just this one
 abbrev pub asks_version : List Text → Bool

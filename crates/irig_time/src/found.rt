@@ -19,6 +19,11 @@ impl<'a> Display for Found<'a> {
     fn fmt<W: Write>(&self, f: &mut Formatter<W>) -> fmt::Result {
         let none = Seconds(self.holes.untimed as u128);
         let all = Seconds(self.micros as u128);
-        write!(f, "{none} s of {all} s of the track have no time")
+        let count = self.holes.count;
+        let noun = if count == 1 { "stretch" } else { "stretches" };
+        write!(
+            f,
+            "{count} {noun}, {none} s of {all} s of the track have no time"
+        )
     }
 }

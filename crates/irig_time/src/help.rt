@@ -52,5 +52,5 @@ fn help_text<'a>() -> &'a str
 pub fn version_text<'a>() -> &'a str
     ensures { result.now ≡ version_text }
 {
-    "irig_time has the version of the tools that were installed with it: irig_align --version\n"
+    "irig_time has the version of the tools that were installed with it: irig_mend --version\n"
 }

@@ -14,7 +14,6 @@ use crate::help::{program, version_text};
 use irig_files::TrackFault;
 use irig_print::put_all;
 use irig_stamps::{PrintFault, RunFault, Standing, Tally};
-use irig_vcd::VcdFault;
 use std::io::Write;
 use std::process::ExitCode;
 
@@ -56,21 +55,9 @@ pub fn print_version<R: Eprint, H: Write>(rt: &R, help: &mut H) -> ExitCode
 fn tell_unread<R: Eprint>(rt: &R, path: &str, fault: &TrackFault) -> ExitCode
     ensures { exit_status result ≡ 3 }
 {
-    let next = what_next(fault);
-    let _ = eprintln!(rt; "irig_time: {path}: {fault}{next}");
-    ExitCode::from(3)
-}
-
-/// What a user can do next about a fault, as the end of its line; nothing, if the fault says it.
-fn what_next<'a>(fault: &TrackFault) -> &'a str {
     match fault {
-        TrackFault::Dump(
-            VcdFault::NoSuchWire
-            | VcdFault::ManyWires
-            | VcdFault::NoEndDefinitions
-            | VcdFault::BadToken(_),
-        ) => "; irig_what FILE says more",
-        _ => "",
+        TrackFault::File(fault) => program().tell_of(rt, 3, path, fault),
+        TrackFault::Dump(fault) => program().tell_dump(rt, 3, path, *fault),
     }
 }
 

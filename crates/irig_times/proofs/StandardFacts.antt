@@ -4,7 +4,7 @@ use Rattle.irig_codes.specs.declared.format.Kind.TheVariants.{A, B, E, G}
 use Rattle.irig_codes.specs.declared.note.Note.TheVariants.{Fine}
 use Rattle.irig_codes.specs.{declared.fields.Fields.Fields, declared.format.Kind.Kind}
 use Rattle.irig_index.specs.declared.record.Verdict.TheVariants.{Read}
-use Rattle.irig_times.specs.{declared.time.Time.Time, Elements.share, Follows.is_later, Tens.sure_elements, Times.minute_micros, Times.timed}
+use Rattle.irig_times.specs.{declared.time.Time.Time, Elements.share, Follows.is_later, Times.minute_micros, Times.timed}
 
 -- a time of a second
 abbrev at : Option ℕ → ℕ → ℕ → ℕ → ℕ → Time
@@ -78,7 +78,3 @@ known-year = refl
 -- a share is rounded down: of a nominal interval, of a fast clock's and of a slow clock's
 pub shares : share 10000 4999 10000 ∷ share 10000 9998 9999 ∷ share 10000 10000 10001 ∷ share 100 0 99 ∷ [] ≡ 4999 ∷ 9998 ∷ 9999 ∷ 0 ∷ []
 shares = refl
-
--- of a frame before 10, 20 or 90 lost intervals, and before whole frames that are lost: if markers are 19, 18, 11 or 20 tens of intervals apart
-pub own : sure_elements 1900 ∷ sure_elements 1798 ∷ sure_elements 1102 ∷ sure_elements 2000 ∷ [] ≡ 89 ∷ 79 ∷ 9 ∷ 100 ∷ []
-own = refl

@@ -1,5 +1,5 @@
 -- When a pulse says another time than that of a frame. This project's own.
-use Rattle.std.specs.Prelude.{ℕ, zero, suc, ◌+◌, ◌/◌, ◌%◌, ◌&&◌, ◌||◌, nat_lt}
+use Rattle.std.specs.Prelude.{ℕ, ◌/◌, ◌%◌, ◌&&◌, ◌||◌, nat_lt}
 use Rattle.std.specs.Prelude.{Bool, true, false, List, Option, Some, None, if◌then◌else◌}
 use Rattle.std.specs.Prelude.{slice_get}
 use Rattle.irig_codes.specs.Format.{FormatView, carries_sbs, has_control}
@@ -59,11 +59,3 @@ contradicts f e None w = false
 contradicts f e (Some p) None = false
 contradicts f e (Some p) (Some w) =
     (nat_lt e (time_elements f.kind) || is_identifier w) && is_other (class_at f p) w
-
--- how many of n pulses, from an element on, do
-abbrev pub contradictions : FormatView → List Pulse → List Element → ℕ → ℕ → ℕ → ℕ
-contradictions f ps wanted number element zero = 0
-contradictions f ps wanted number element (suc n) =
-    if contradicts f element (slice_get ps number) (slice_get wanted element)
-    then suc (contradictions f ps wanted (number + 1) (element + 1) n)
-    else contradictions f ps wanted (number + 1) (element + 1) n

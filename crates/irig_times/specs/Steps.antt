@@ -41,20 +41,3 @@ follows_at f ps (suc k) = is_regular f (slice_get ps k) (slice_get ps (suc k))
 -- the pulse with this number is in step with the one before it
 abbrev pub is_in_step_at : FormatView → List Pulse → ℕ → Bool
 is_in_step_at f ps k = follows_at f ps k && is_even_at f ps k
-
--- each of n pulses from the one with a number on rises one interval after the one before it
-abbrev pub all_follow : FormatView → List Pulse → ℕ → ℕ → Bool
-all_follow f ps number zero = true
-all_follow f ps number (suc n) = follows_at f ps number && all_follow f ps (number + 1) n
-
--- of n pulses from the one with a number on, how many are each in step with the one before them
-abbrev pub ahead : FormatView → List Pulse → ℕ → ℕ → ℕ
-ahead f ps number zero = 0
-ahead f ps number (suc n) =
-    if is_in_step_at f ps number then suc (ahead f ps (number + 1) n) else 0
-
--- of n pulses before the one with a number, how many are in step up to it
-abbrev pub behind : FormatView → List Pulse → ℕ → ℕ → ℕ
-behind f ps number zero = 0
-behind f ps number (suc n) =
-    if is_in_step_at f ps number then suc (behind f ps (number - 1) n) else 0

@@ -88,8 +88,7 @@ fn is_other(class: Option<Element>, wanted: Element) -> bool
     }
 }
 
-/// Whether an element is a position identifier.
-pub fn is_identifier(element: Element) -> bool
+fn is_identifier(element: Element) -> bool
     ensures { result ≡ is_identifier element }
 {
     match element {

@@ -1,10 +1,8 @@
-//! Which time is one frame period after another: of two times `from` is the first and `to` the
-//! second.
+//! Which time is one frame period after another.
 
 ghost use Rattle.std.specs.Prelude.{◌≡◌, ◌+◌, ◌*◌, ◌%◌, ◌≤◌, ◌<◌, ◌^◌, pos};
 ghost use Rattle.jiff_core.specs.Calendar.{days_in_year};
 ghost use Rattle.irig_times.specs.Follows.{same_year, next_year, same_day, same_hour, same_minute};
-ghost use Rattle.irig_times.specs.Follows.{same_time};
 ghost use Rattle.irig_times.specs.Follows.{is_day_after, day_follows, hour_follows, minute_follows};
 ghost use Rattle.irig_times.specs.Follows.{is_later_in, is_later};
 
@@ -39,7 +37,7 @@ fn next_year(year: Option<u32>) -> Option<u32>
 }
 
 /// Whether two times are on the same day of the same year. Two unknown years are the same.
-pub fn same_day(one: &Time, other: &Time) -> bool
+fn same_day(one: &Time, other: &Time) -> bool
     ensures { result ≡ same_day one.now other.now }
 {
     same_year(one.year, other.year) && one.days == other.days
@@ -57,13 +55,6 @@ fn same_minute(one: &Time, other: &Time) -> bool
     same_hour(one, other) && one.minutes == other.minutes
 }
 
-/// Whether two times are the same, to the microsecond.
-pub fn same_time(one: &Time, other: &Time) -> bool
-    ensures { result ≡ same_time one.now other.now }
-{
-    same_minute(one, other) && one.micros == other.micros
-}
-
 /// Whether the second time is on the next day, if the first one's year has `count` days. False if
 /// the first day is later than that, as day 366 of 365.
 fn is_day_after(count: u32, from: &Time, to: &Time) -> bool
@@ -76,7 +67,7 @@ fn is_day_after(count: u32, from: &Time, to: &Time) -> bool
     }
 }
 
-/// If the year is unknown, 365 and 366 days are both tried, and one is enough.
+/// Of an unknown year 365 and 366 are tried.
 fn day_follows(century: u32, from: &Time, to: &Time) -> bool
     requires { century ≤ 99 }
     ensures { result ≡ day_follows century from.now.year from.now to.now }
@@ -95,7 +86,6 @@ fn year_length(century: u32, year: u32) -> u32
     days_in_year((100 * century + year % 100) as i16) as u32
 }
 
-/// After hour 23 comes hour 0 of the next day.
 fn hour_follows(century: u32, from: &Time, to: &Time) -> bool
     requires { century ≤ 99 }
     ensures { result ≡ hour_follows century from.now to.now }

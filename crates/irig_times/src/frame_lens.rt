@@ -26,7 +26,6 @@ impl<'a> Model for FrameLens<'a> {
 }
 
 impl<'a> FrameLens<'a> {
-    /// A lens that has counted no look.
     pub fn new(index: &'a Index) -> FrameLens<'a>
         ensures { result ≡ frames_view index.now.records 0 }
     {
@@ -36,7 +35,7 @@ impl<'a> FrameLens<'a> {
         }
     }
 
-    /// How many records there are. No look is counted.
+    /// No look is counted.
     pub fn len(&self) -> usize
         ensures { result ≡ length self.now.records }
     {

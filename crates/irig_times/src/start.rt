@@ -1,4 +1,4 @@
-//! Where frames start that have a time.
+//! Starts of frames.
 
 ghost use Rattle.std.specs.Prelude.{◌≡◌, ◌↔◌, ◌<◌, ◌≤◌, ◌+◌, IsTrue, length, slice_get, Some};
 ghost use Rattle.irig_codes.specs.Format.{FormatView};

@@ -2,7 +2,7 @@
 
 ghost use Rattle.std.specs.Prelude.{◌≡◌, ◌<◌, ◌≤◌, ◌+◌, ◌^◌, IfSome, length, option_map, slice_get};
 ghost use Rattle.irig_recording.specs.declared.pulse.Pulse.{Pulse};
-ghost use Rattle.irig_times.specs.Steps.{ahead, all_follow, behind, follows_at, is_regular};
+ghost use Rattle.irig_times.specs.Steps.{follows_at, is_regular};
 ghost use Rattle.irig_times.specs.Steps.{is_as_long, is_even_at, is_in_step_at, step_at};
 
 use irig_codes::{Format, in_step};
@@ -33,7 +33,7 @@ pub fn is_in_step_at(pulses: &mut Lens<'_>, format: Format, number: usize) -> bo
 }
 
 /// Whether the step to pulse `number` is regular: one interval long, to a tenth.
-pub fn follows_at(pulses: &mut Lens<'_>, format: Format, number: usize) -> bool
+fn follows_at(pulses: &mut Lens<'_>, format: Format, number: usize) -> bool
     ensures step { result ≡ follows_at format pulses.old.track.pulses number }
     ensures pulses { pulses.new.track ≡ pulses.old.track }
 {
@@ -97,54 +97,4 @@ fn is_even_at(pulses: &mut Lens<'_>, format: Format, number: usize) -> bool
     let step = step_at(pulses, number);
     let after = step_at(pulses, number + 1);
     is_as_long(format, step, before) && is_as_long(format, step, after)
-}
-
-/// How many of `most` pulses from pulse `number` on come before the first that is not in step.
-pub fn ahead(pulses: &mut Lens<'_>, format: Format, number: usize, most: usize) -> usize
-    requires { (number < 2 ^ 32) × (most < 2 ^ 32) }
-    ensures count { result ≡ ahead format pulses.old.track.pulses number most }
-    ensures few { result ≤ most }
-    ensures pulses { pulses.new.track ≡ pulses.old.track }
-{
-    let mut count = 0;
-    while count < most {
-        if !is_in_step_at(pulses, format, number + count) {
-            return count;
-        }
-        count += 1;
-    }
-    count
-}
-
-/// Whether the steps to these pulses are regular; unlike in `ahead` they are not compared.
-pub fn all_follow(pulses: &mut Lens<'_>, format: Format, number: usize, many: usize) -> bool
-    requires { (number < 2 ^ 32) × (many < 2 ^ 32) }
-    ensures follow { result ≡ all_follow format pulses.old.track.pulses number many }
-    ensures pulses { pulses.new.track ≡ pulses.old.track }
-{
-    let mut count = 0;
-    while count < many {
-        if !follows_at(pulses, format, number + count) {
-            return false;
-        }
-        count += 1;
-    }
-    true
-}
-
-/// How many pulses before pulse `number` lead to it in step, at most `most`.
-pub fn behind(pulses: &mut Lens<'_>, format: Format, number: usize, most: usize) -> usize
-    requires { (most ≤ number) × (number < 2 ^ 32) }
-    ensures count { result ≡ behind format pulses.old.track.pulses number most }
-    ensures few { result ≤ most }
-    ensures pulses { pulses.new.track ≡ pulses.old.track }
-{
-    let mut count = 0;
-    while count < most {
-        if !is_in_step_at(pulses, format, number - count) {
-            return count;
-        }
-        count += 1;
-    }
-    count
 }

@@ -1,7 +1,6 @@
 use Rattle.std.proofs.Common.{◌≤◌, ◌<◌, length, slice_get, List, ap, ◌∙◌, arith}
 use Rattle.irig_index.specs.declared.record.Record.{Record}
-use Rattle.irig_times.proofs.SupportSteps.{stands}
-use Rattle.irig_stamps.proofs.DateSteps.{doubt-end, doubt-step}
+use Rattle.irig_stamps.proofs.DateSteps.{doubt-end, doubt-step, stands}
 use Rattle.irig_stamps.proofs.first_day.count_doubted.Goals as goal
 
 pub doubt_of-count-requires : goal.doubt_of-count-requires

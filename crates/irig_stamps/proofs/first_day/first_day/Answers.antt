@@ -1,7 +1,6 @@
 use Rattle.std.proofs.Common.{◌<◌, length, slice_get, List, ap, sym, ◌∙◌, arith}
 use Rattle.irig_index.specs.declared.record.Record.{Record}
-use Rattle.irig_times.proofs.SupportSteps.{stands}
-use Rattle.irig_stamps.proofs.DateSteps.{first-is, first-later}
+use Rattle.irig_stamps.proofs.DateSteps.{first-is, first-later, stands}
 use Rattle.irig_stamps.proofs.first_day.first_day.Goals as goal
 
 pub loop-k-preserved : goal.loop-k-preserved

@@ -1,2 +1,0 @@
-pub mod StandLemmas
-pub mod TimesKept

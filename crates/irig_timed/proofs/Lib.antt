@@ -1,0 +1,21 @@
+-- lists
+mod Lists
+mod HeldLists
+mod Doubts
+-- runs, frames around a pulse, and pulses around a moment
+mod RunPlaces
+mod RunLists
+mod RunPoints
+mod StretchPairs
+mod Surround
+mod AroundRuns
+mod MomentFacts
+-- times that are true
+mod NearLines
+mod TruePoints
+mod TrueMoments
+-- times of the calendar, and reasons
+pub mod TimedCalendar
+pub mod Kept
+pub mod OneReason
+mod SomeReason

@@ -1,0 +1,75 @@
+-- What is between two pulses that have a time, next to each other: a line that is nearly right, or
+-- why nothing there has a time. This project's own.
+use Rattle.std.specs.Prelude.{ℕ, ◌+◌, ◌-◌, ◌*◌, ◌==◌, ◌&&◌, ◌||◌, nat_le, nat_lt, max, Bool, not}
+use Rattle.std.specs.Prelude.{List, Option, Some, None, if◌then◌else◌}
+use Rattle.irig_codes.specs.{Format.FormatView, Width.is_in_step}
+use Rattle.irig_recording.specs.declared.pulse.Pulse.{Pulse}
+use Rattle.irig_times.specs.Torn.{micros_between}
+use Rattle.irig_times.specs.declared.why.Why.TheVariants.{After, Before, Hole, Step}
+use Rattle.irig_law.specs.{Bound.rate_of, Bound.units_of, Bridge.Rate}
+use Rattle.irig_law.specs.{Clocks.clock_of, Clocks.slack_of, OfOne.any_from, Rows.is_clean}
+use Rattle.irig_law.specs.{declared.clock.Clock.Clock, declared.frame.Frame.Frame}
+use Rattle.irig_timed.specs.{Apart.elements_after, Stretches.stretch_at}
+use Rattle.irig_timed.specs.declared.gap.Gap.{Gap}
+use Rattle.irig_timed.specs.declared.gap.Gap.TheVariants.{Line, Untimed}
+use Rattle.irig_timed.specs.declared.run.Place.{Place}
+
+-- Between two pulses some units of the code pass by their times, and by the clock some at
+-- least and some at most. By how far these differ the line between the two can be off, wherever
+-- something was lost, and by one for the rounding.
+abbrev pub most_off : Rate → ℕ → ℕ → ℕ
+most_off r long units = max (r.most * long - units) (units - r.least * long) + 1
+
+-- units are trillionths of an interval: a time has no greater bound than a fiftieth of one
+abbrev pub widest : ℕ
+widest = 20000000000
+
+-- the clock shows another number of elements, by more than half an interval
+abbrev pub is_event : Rate → ℕ → ℕ → Bool
+is_event r long units =
+    nat_lt (r.most * long + 500000000000) units
+    || nat_lt (units + 500000000000) (r.least * long)
+
+-- there can be a line if the gap is free
+abbrev pub gap_by : Bool → Rate → ℕ → ℕ → Gap
+gap_by free r long units =
+    if free && nat_le (most_off r long units) widest then Line (most_off r long units)
+    else (if is_event r long units then Untimed Step else Untimed Hole)
+
+abbrev pub gap_in : Bool → Clock → ℕ → ℕ → Gap
+gap_in free c long n =
+    if nat_lt c.slack c.span then gap_by free (rate_of c) long (units_of n) else Untimed Hole
+
+-- the same by the clock of the frames around; at an end of the recording none are
+abbrev pub gap_over : FormatView → List Pulse → Bool → Option (Frame × Frame) → ℕ → ℕ → Gap
+gap_over f ps free None long n = Untimed Hole
+gap_over f ps free (Some s) long n =
+    gap_in free (clock_of f ps s.0 (slack_of ps s.0 s.1)) long n
+
+-- A gap is free if no pulse in it is clean: one without a time that the two before it and the two
+-- after it are in step with shows something else than the line.
+abbrev pub is_free : FormatView → List Pulse → ℕ → ℕ → Bool
+is_free f ps one other = not (any_from (is_clean f ps) (one + 1) (other - (one + 1)))
+
+-- two pulses are next to each other, in step, and one element apart
+abbrev pub is_step : FormatView → List Pulse → ℕ → ℕ → ℕ → Bool
+is_step f ps one other n =
+    (other == one + 1) && ((n == 1) && is_in_step f (micros_between ps one other))
+
+-- of pulses that are n elements apart; a step is even, whatever the clock shows
+abbrev pub gap_of : FormatView → List Pulse → List Frame → ℕ → ℕ → ℕ → Gap
+gap_of f ps frames one other n =
+    if is_step f ps one other n then Line 0
+    else (if n == 0 then Untimed Step
+    else gap_over f ps (is_free f ps one other) (stretch_at frames one)
+    (micros_between ps one other) n)
+
+abbrev pub gap_between : FormatView → ℕ → List Pulse → List Frame → Place → Place → Gap
+gap_between f century ps frames p q =
+    gap_of f ps frames p.number q.number (elements_after f century p.point q.point)
+
+-- also before the first such pulse, and after the last one
+abbrev pub gap_at : FormatView → ℕ → List Pulse → List Frame → Option Place → Option Place → Gap
+gap_at f century ps frames None to = Untimed Before
+gap_at f century ps frames (Some p) None = Untimed After
+gap_at f century ps frames (Some p) (Some q) = gap_between f century ps frames p q

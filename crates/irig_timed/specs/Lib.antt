@@ -1,0 +1,14 @@
+pub mod Apart
+pub mod Around
+pub mod Elements
+pub mod Gaps
+pub mod Held
+pub mod Knowns
+pub mod Line
+pub mod Moments
+pub mod ReasonLaws
+pub mod Reasons
+pub mod Runs
+pub mod Stretches
+pub mod Surroundings
+pub mod Truths

@@ -1,0 +1,50 @@
+-- THE TIME OF A MOMENT by the law of time, and how far it can be off. This project's own.
+use Rattle.std.specs.Prelude.{◌≡◌, ℕ, ◌-◌, ◌*◌, ◌/◌, Bool, true, List, Some, slice_get}
+use Rattle.irig_codes.specs.Format.{FormatView}
+use Rattle.irig_recording.specs.declared.pulse.Pulse.{Pulse}
+use Rattle.irig_track.specs.Splices.{risen_by}
+use Rattle.irig_times.specs.declared.time.Time.{Time}
+use Rattle.irig_law.specs.{Believed.believed, Points.IsPoint, declared.frame.Frame.Frame}
+use Rattle.irig_timed.specs.{Around.AreAround, Apart.elements_after}
+use Rattle.irig_timed.specs.{Gaps.gap_between, Line.is_in_hour, Line.time_on}
+use Rattle.irig_law.specs.declared.point.Point.{Point}
+use Rattle.irig_timed.specs.declared.gap.Gap.TheVariants.{Line}
+use Rattle.irig_timed.specs.declared.run.Place.{Place}
+
+-- a pulse has a time: it is this element by the law, and not past the end of its hour
+pub record IsElement (f : FormatView) (century : ℕ) (ps : List Pulse) (frames : List Frame)
+    (k : ℕ) (x : Point) : Type 0 where
+  pub point : IsPoint f century ps frames k x
+  pub hour : is_in_hour f x ≡ true
+
+-- n / d microseconds after the start of a track with these believed frames it is this time: on the
+-- line from the last pulse that has risen by then and has a time to the next one that has one. The
+-- bound is in trillionths of an interval; 0 between pulses that are one element apart.
+pub record IsMomentBy (f : FormatView) (century : ℕ) (ps : List Pulse) (frames : List Frame)
+    (d n : ℕ) (time : Time) (bound : ℕ) : Type 0 where
+  pub from : Place
+  pub to : Place
+  pub point : Pulse
+  pub next : Pulse
+  pub around : AreAround (IsElement f century ps frames) (risen_by (n / d) ps) (Some from)
+      (Some to)
+  pub stands : slice_get ps from.number ≡ Some point
+  pub stands_next : slice_get ps to.number ≡ Some next
+  pub line : gap_between f century ps frames from to ≡ Line bound
+  pub is : time ≡ time_on f from.point to.point (elements_after f century from.point to.point)
+      (n - d * point.rise) (d * (next.rise - point.rise))
+
+-- the frames of a track that are believed
+abbrev pub frames_by : FormatView → Bool → ℕ → List Pulse → List Frame
+frames_by f alone century ps = believed f alone century ps
+
+abbrev pub IsMoment : FormatView → Bool → ℕ → List Pulse → ℕ → ℕ → Time → ℕ → Type 0
+IsMoment f alone century ps d n time bound =
+    IsMomentBy f century ps (frames_by f alone century ps) d n time bound
+
+-- n / d microseconds after the start it is this time; its bound is this
+abbrev pub IsTimed : FormatView → Bool → ℕ → List Pulse → ℕ → ℕ → Time → Type 0
+IsTimed f alone century ps d n time = (bound : ℕ) × IsMoment f alone century ps d n time bound
+
+abbrev pub IsBound : FormatView → Bool → ℕ → List Pulse → ℕ → ℕ → ℕ → Type 0
+IsBound f alone century ps d n bound = (time : Time) × IsMoment f alone century ps d n time bound

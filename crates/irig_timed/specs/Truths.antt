@@ -1,0 +1,45 @@
+-- THE TIME OF EACH MOMENT IS TRUE, to its bound, if what happened to the recording is one of the
+-- stories. This project's own.
+use Rattle.std.specs.Prelude.{◌≡◌, ℕ, ◌+◌, ◌-◌, ◌*◌, ◌/◌, ◌<◌, ◌≤◌, List, Some}
+use Rattle.irig_codes.specs.{Format.FormatView, Format.interval_of, declared.fields.Fields.Fields}
+use Rattle.irig_recording.specs.declared.pulse.Pulse.{Pulse}
+use Rattle.irig_times.specs.declared.time.Time.{Time}
+use Rattle.irig_track.specs.Track.{IsLongTrack}
+use Rattle.irig_law.specs.{Bound.rate_of, Bound.units_of, Bridge.Rate, BridgeTruth.Hole}
+use Rattle.irig_law.specs.{Clocks.clock_of, Clocks.slack_of, declared.frame.Frame.Frame}
+use Rattle.irig_law.specs.{Printed.printed, Printed.true_time, Theorem.Story}
+use Rattle.irig_timed.specs.{Apart.elements_after, Line.over_in, Moments.IsMomentBy}
+use Rattle.irig_timed.specs.Stretches.{stretch_at}
+
+-- the units in some microseconds of the code
+abbrev pub units_in : FormatView → ℕ → ℕ
+units_in f micros = micros * (1000000000000 / interval_of f.kind)
+
+-- Between two pulses that are n elements and some microseconds apart the code that passed is `over`
+-- microseconds, to the bound and to the microsecond that is printed, if the clock ran at the rate
+-- but for one event at most. What passed is in units / d, and `part` in microseconds / d.
+abbrev pub PassesNearly : FormatView → Rate → ℕ → ℕ → ℕ → ℕ → ℕ → ℕ → Type 0
+PassesNearly f r long n bound d part over =
+    (passed : ℕ → ℕ) → Hole r (d * long) (d * units_of n) passed
+    → (d * units_in f over ≤ passed part + d * bound)
+    × (passed part ≤ d * units_in f (over + 1) + d * bound)
+
+-- The two pulses around a moment have their true times; `name` and `sent` are those of the story.
+-- On a line with a bound the time is counted from them by what passed.
+pub record IsTrue (f : FormatView) (century : ℕ) (ps : List Pulse) (frames : List Frame)
+    (d n : ℕ) (time : Time) (bound : ℕ) (m : IsMomentBy f century ps frames d n time bound)
+    (name : ℕ → ℕ) (sent : ℕ → Fields) : Type 0 where
+  pub begins : printed f m.from.point ≡ true_time f sent (name m.from.number)
+  pub ends : printed f m.to.point ≡ true_time f sent (name m.to.number)
+  pub passes : (a b : Frame) → stretch_at frames m.from.number ≡ Some (a, b) → 0 < bound
+      → PassesNearly f (rate_of (clock_of f ps a (slack_of ps a b)))
+      (m.next.rise - m.point.rise) (elements_after f century m.from.point m.to.point) bound d
+      (n - d * m.point.rise) (over_in f (elements_after f century m.from.point m.to.point)
+      (n - d * m.point.rise) (d * (m.next.rise - m.point.rise)))
+
+abbrev pub MomentsAreTrue : Type 0
+MomentsAreTrue = (f : FormatView) (century micros : ℕ) (ps : List Pulse) (frames : List Frame)
+    (name : ℕ → ℕ) (sent : ℕ → Fields) → IsLongTrack micros ps
+    → Story f century ps frames name sent → (d n : ℕ) → 0 < d → (time : Time) (bound : ℕ)
+    (m : IsMomentBy f century ps frames d n time bound)
+    → IsTrue f century ps frames d n time bound m name sent

@@ -1,0 +1,191 @@
+//! What is between two pulses that have a time: a line that is nearly right, or why nothing there
+//! has a time. Bounds in `requires`, as 2 ^ 26, only keep sums in their types.
+
+ghost use Rattle.std.specs.Prelude.{◌≡◌, ◌<◌, ◌≤◌, ◌+◌, ◌^◌, IfSome, Some, length};
+ghost use Rattle.irig_law.specs.{Bound.rate_of, Bound.units_of};
+ghost use Rattle.irig_timed.specs.Gaps.{gap_at, gap_between, gap_by, gap_in, gap_of, gap_over};
+ghost use Rattle.irig_timed.specs.Gaps.{is_event, is_step, most_off};
+ghost use Rattle.irig_timed.specs.Stretches.{AreFramesOf, stretch_at};
+
+use crate::apart::elements_after;
+use crate::clean::is_free;
+use crate::clocks::{clock_of, micros_between};
+use crate::run::Place;
+use crate::stretch::stretch_at;
+use irig_codes::{Format, in_step};
+use irig_law::{Clock, Frame};
+use irig_times::Why;
+use irig_track::Lens;
+
+/// The units of an interval: trillionths.
+const UNITS: u128 = 1_000_000_000_000;
+
+/// The greatest bound of a time: a fiftieth of an interval.
+const WIDEST: u128 = 20_000_000_000;
+
+/// Half an interval.
+const HALF: u128 = 500_000_000_000;
+
+#[derive(Clone, Copy)]
+pub enum Gap {
+    /// Time goes on the line between the two, which is off by that many trillionths of an interval
+    /// at most.
+    Line(u64),
+    Untimed(Why),
+}
+
+/// What is between two pulses next to each other that have a time, before the first one, or after
+/// the last one. `frames` are the believed ones.
+pub fn gap_at(
+    pulses: &mut Lens<'_>,
+    frames: &[Frame],
+    format: Format,
+    century: u32,
+    from: Option<Place>,
+    to: Option<Place>,
+) -> Gap
+    requires century { century ≤ 99 }
+    requires frames { AreFramesOf frames.now }
+    requires from { IfSome from (λ p. (p.number < 2 ^ 26) × (p.point.element < 100)) }
+    requires to { IfSome to (λ q. (q.number ≤ 2 ^ 26) × (q.point.element < 100)) }
+    ensures gap { result ≡ gap_at format century pulses.old.track.pulses frames.now from to }
+    ensures pulses { pulses.new.track ≡ pulses.old.track }
+{
+    match (from, to) {
+        (Some(from), Some(to)) => gap_between(pulses, frames, format, century, &from, &to),
+        (Some(_), None) => Gap::Untimed(Why::After),
+        (None, Some(_)) => Gap::Untimed(Why::Before),
+        (None, None) => Gap::Untimed(Why::Before),
+    }
+}
+
+/// What is between two pulses next to each other that have a time.
+fn gap_between(
+    pulses: &mut Lens<'_>,
+    frames: &[Frame],
+    format: Format,
+    century: u32,
+    from: &Place,
+    to: &Place,
+) -> Gap
+    requires century { century ≤ 99 }
+    requires frames { AreFramesOf frames.now }
+    requires from { (from.now.number < 2 ^ 26) × (from.now.point.element < 100) }
+    requires to { (to.now.number ≤ 2 ^ 26) × (to.now.point.element < 100) }
+    ensures gap { result ≡ gap_between format century pulses.old.track.pulses frames.now from.now
+        to.now }
+    ensures pulses { pulses.new.track ≡ pulses.old.track }
+{
+    let elements = elements_after(format, century, &from.point, &to.point);
+    gap_of(pulses, frames, format, from.number, to.number, elements)
+}
+
+/// The same of pulses that are that many elements apart.
+fn gap_of(
+    pulses: &mut Lens<'_>,
+    frames: &[Frame],
+    format: Format,
+    one: usize,
+    other: usize,
+    elements: u64,
+) -> Gap
+    requires frames { AreFramesOf frames.now }
+    requires small { (one < 2 ^ 26) × (other ≤ 2 ^ 26) × (elements < 2 ^ 48) }
+    ensures gap { result ≡ gap_of format pulses.old.track.pulses frames.now one other elements }
+    ensures pulses { pulses.new.track ≡ pulses.old.track }
+{
+    if is_step(pulses, format, one, other, elements) {
+        return Gap::Line(0);
+    }
+    if elements == 0 {
+        return Gap::Untimed(Why::Step);
+    }
+    let free = is_free(pulses, format, one, other);
+    let long = micros_between(pulses, one, other);
+    gap_over(
+        pulses,
+        format,
+        free,
+        stretch_at(frames, one),
+        long,
+        elements,
+    )
+}
+
+/// Whether two pulses are next to each other, in step, and one element apart.
+fn is_step(pulses: &mut Lens<'_>, format: Format, one: usize, other: usize, elements: u64) -> bool
+    requires { one < 2 ^ 26 }
+    ensures step { result ≡ is_step format pulses.old.track.pulses one other elements }
+    ensures pulses { pulses.new.track ≡ pulses.old.track }
+{
+    other == one + 1 && elements == 1 && in_step(format, micros_between(pulses, one, other))
+}
+
+/// The same by the clock of the two frames around; `free` is whether a line can be there.
+fn gap_over(
+    pulses: &mut Lens<'_>,
+    format: Format,
+    free: bool,
+    stretch: Option<(Frame, Frame)>,
+    long: u64,
+    elements: u64,
+) -> Gap
+    requires stretch { IfSome stretch (λ s. (s.0.marker < 2 ^ 26) × (s.1.marker < 2 ^ 26)) }
+    requires small { (long ≤ 2 ^ 40) × (elements < 2 ^ 48) }
+    ensures gap { result ≡ gap_over format pulses.old.track.pulses free stretch long elements }
+    ensures pulses { pulses.new.track ≡ pulses.old.track }
+{
+    match stretch {
+        Some(stretch) => {
+            let clock = clock_of(pulses, format, &stretch.0, &stretch.1);
+            gap_in(free, &clock, long, elements)
+        }
+        None => Gap::Untimed(Why::Hole),
+    }
+}
+
+/// The same by a clock.
+fn gap_in(free: bool, clock: &Clock, long: u64, elements: u64) -> Gap
+    requires { (clock.now.span ≤ 2 ^ 40) × (long ≤ 2 ^ 40) × (elements < 2 ^ 48) }
+    ensures { result ≡ gap_in free clock.now long elements }
+{
+    if clock.span <= clock.slack {
+        return Gap::Untimed(Why::Hole);
+    }
+    let least = 99 * UNITS / (clock.span as u128 + clock.slack as u128);
+    let most = 99 * UNITS / (clock.span - clock.slack) as u128 + 1;
+    gap_by(free, least, most, long as u128, elements as u128 * UNITS)
+}
+
+/// The same, if at least `least` and at most `most` units of the code pass in a microsecond.
+fn gap_by(free: bool, least: u128, most: u128, long: u128, units: u128) -> Gap
+    requires { (least < 2 ^ 48) × (most < 2 ^ 48) × (long ≤ 2 ^ 40) × (units < 2 ^ 96) }
+    ensures { result ≡ gap_by free (record { least = least; most = most }) long units }
+{
+    let off = most_off(least, most, long, units);
+    if free && off <= WIDEST {
+        Gap::Line(off as u64)
+    } else if is_event(least, most, long, units) {
+        Gap::Untimed(Why::Step)
+    } else {
+        Gap::Untimed(Why::Hole)
+    }
+}
+
+/// By how many units the line can be off.
+fn most_off(least: u128, most: u128, long: u128, units: u128) -> u128
+    requires { (least < 2 ^ 48) × (most < 2 ^ 48) × (long ≤ 2 ^ 40) × (units < 2 ^ 96) }
+    ensures { result ≡ most_off (record { least = least; most = most }) long units }
+{
+    let more = (most * long).saturating_sub(units);
+    let fewer = units.saturating_sub(least * long);
+    more.max(fewer) + 1
+}
+
+/// Whether the clock shows another number of elements.
+fn is_event(least: u128, most: u128, long: u128, units: u128) -> bool
+    requires { (least < 2 ^ 48) × (most < 2 ^ 48) × (long ≤ 2 ^ 40) × (units < 2 ^ 96) }
+    ensures { result ≡ is_event (record { least = least; most = most }) long units }
+{
+    most * long + HALF < units || units + HALF < least * long
+}
