@@ -19,7 +19,8 @@ from random_input import damages
 from rows.in_process import run
 from rows.tools_apply import END, both, glitch, in_folder, nanoseconds, recorded, same, text_of
 from rows.tools_outputs import contents, filled, shell
-from rows.tools_sent import Draft, Recording, recordings
+from rows.tools_sent import Draft, Recording
+from recordings import make  # which tools_sent has put on the path
 from rows.tools_with import Track
 
 RANDOM = 20  # damaged recordings
@@ -295,7 +296,7 @@ def summed():
     and irig_damage counts as many places as are found."""
     def holds():
         for seed in range(SEEDS):
-            made = recordings.make(KINDS_OF_PAGES[seed % len(KINDS_OF_PAGES)], seed) if seed < SEEDS - 2 else spoilt(seed)
+            made = make(KINDS_OF_PAGES[seed % len(KINDS_OF_PAGES)], seed) if seed < SEEDS - 2 else spoilt(seed)
             with open("made.vcd", "w", encoding="ascii") as file:
                 file.write(made.text)
             words = ["--format=" + made.format, "--expression=%d" % made.expression]

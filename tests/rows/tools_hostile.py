@@ -7,14 +7,14 @@ import tempfile
 
 from built import DIFF, TIME
 from cases import case
-from irig_tools import align_program, damage_program, demodulate_program, escapes, join_program, mend_program, what_program, wire_program
+from irig_tools import damage_program, demodulate_program, escapes, join_program, mend_program, what_program, wire_program
 from random_input import damages
 from rows import in_process
 from rows.tools_apply import END, recorded, same
 from rows.tools_outputs import DAMAGED
 from rows.tools_what import dump
 
-PROGRAMS = what_program, wire_program, damage_program, mend_program, demodulate_program, align_program, join_program
+PROGRAMS = what_program, wire_program, damage_program, mend_program, demodulate_program, join_program
 in_process.MAINS.update({each.COMMAND.name: each.main for each in PROGRAMS})
 FILES = "FILE", "ORIGINAL", "OTHER", "FOLDER"  # how the value of an option is called that is a file
 PLAIN = "plain.vcd"
@@ -56,7 +56,6 @@ def commands(name):
     yield from (("irig_mend", [*words, *to]) for words in ([], ["--json"]))
     yield "irig_demodulate", ["--table", "--samples=" + new, "--column=value", "--out=%s.2" % new, "--", "table" + name]
     yield "irig_demodulate", ["--table", "--column=" + name, "--", "table" + name]
-    yield "irig_align", ["--", name]
     yield "irig_join", ["--comma=,", "--header=1", "--out=%s.3" % new, "--", "timed" + name, "timed" + name]
     yield "irig_join", ["--", "timed" + name, "timed" + name]
 

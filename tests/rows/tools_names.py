@@ -7,12 +7,12 @@ import tempfile
 
 from built import DIFF, GUARD, TIME
 from cases import case
-from irig_tools import align_program, damage_program, mend_program
+from irig_tools import damage_program, mend_program
 from rows import in_process
 from rows.in_process import run
 from rows.tools_what import dump, track
 
-in_process.MAINS.update(irig_damage=damage_program.main, irig_mend=mend_program.main, irig_align=align_program.main)
+in_process.MAINS.update(irig_damage=damage_program.main, irig_mend=mend_program.main)
 CODE = "--format=B", "--expression=7"
 TEXT = re.compile(r"wire (?:is )?(\S+) \(")
 RX = "$scope module rx $end $var wire 1 ! irig $end $upscope $end"
@@ -53,7 +53,7 @@ def commands(name, path):
                                (DIFF, [path, path + ".one"])):
         done = subprocess.run([program, wire, *arguments], stdin=subprocess.DEVNULL, capture_output=True, check=False)
         yield os.path.basename(program), done.returncode, done.stderr.decode()
-    for tool, quiet in (("irig_damage", []), ("irig_mend", []), ("irig_align", ["--quiet"])):
+    for tool, quiet in (("irig_damage", []), ("irig_mend", [])):
         status, _, said = run(tool, [wire, *quiet, *words])
         yield tool, status, said
     status, _, said = run("irig_wire", [path, name, "--out", path + ".again"])

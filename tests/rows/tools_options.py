@@ -5,10 +5,10 @@ import re
 import subprocess
 
 from cases import case
-from irig_tools import align_program, damage_program, demodulate_program, join_program, mend_program, what_program, wire_program
+from irig_tools import damage_program, demodulate_program, join_program, mend_program, what_program, wire_program
 from irig_tools.ending import Usage
 
-PROGRAMS = (align_program, damage_program, demodulate_program, join_program, mend_program, what_program, wire_program)
+PROGRAMS = (damage_program, demodulate_program, join_program, mend_program, what_program, wire_program)
 
 
 def manual_of(top, name):

@@ -8,6 +8,7 @@ import re
 import subprocess
 import sys
 import tempfile
+from unittest import mock
 
 from built import TIME, TOP
 from cases import case
@@ -17,7 +18,6 @@ from rows.tools_parts import same
 
 sys.path.insert(0, os.path.join(TOP, "bench", "shares"))
 
-import recordings  # noqa: E402
 from recordings import PARITY, Draft, Recording  # noqa: E402
 from sent import DAY, HOUR, MINUTE, SECOND, Run, control_elements, year_length  # noqa: E402
 from tape import Clock, Wave, dump  # noqa: E402
@@ -616,23 +616,42 @@ def of_no_time():
 
 # 12: samples that a repair would leave without a time
 
-TAKERS = (("many", 7214), ("slip", 7060), ("wow", 7011))  # kinds of bench/shares, with seeds
+# an irig_time that gives the moments next to a pulse no time, if the track has the pulse
+TAKING = """#!%s
+import re, subprocess, sys
+asked = sys.stdin.buffer.read()
+printed = subprocess.run([%r, *sys.argv[1:]], input=asked, stdout=subprocess.PIPE, check=False).stdout.decode()
+with open(sys.argv[-1], encoding="ascii") as file:
+    takes = re.search(r"#%d\\b", file.read())
+for line in printed.splitlines():
+    time, _, moment = line.partition("\\t")
+    print("-" if takes and abs(float(moment) - %d) < %d else time, moment, sep="\\t")
+"""
+
+
+def taking(folder, rise, reach):
+    """An irig_ed in a folder, with an irig_time next to it that gives no time near a pulse that rises then, if the track has it."""
+    for name in ("irig_ed", "irig_guard"):
+        os.symlink(os.path.join(os.path.dirname(TIME), "..", "..", name, "out", name), os.path.join(folder, name))
+    with open(os.path.join(folder, "irig_time"), "w", encoding="ascii") as file:
+        file.write(TAKING % (sys.executable, TIME, rise, rise, reach))
+    os.chmod(os.path.join(folder, "irig_time"), 0o755)
+    return mock.patch.dict(os.environ, IRIG_ED=os.path.join(folder, "irig_ed"))
 
 
 def of_taken_times():
-    """A repair is left out, with a remark, if it would take the time of a sample: what is damaged is next to silence at an end, to a step,
-    or to a frame that shows another time, and would count as that."""
-    for kind, seed in TAKERS:
-        made = recordings.make(kind, seed)
-        form, moments = (made.format, str(made.expression)), recordings.samples(made)
-        with tempfile.TemporaryDirectory() as folder:
-            with open(os.path.join(folder, "track.vcd"), "w", encoding="ascii") as file:
-                file.write(made.text)
-            status, lines = run_on(folder, "--format=" + form[0], "--expression=" + form[1], "--apply", "mended.vcd", "track.vcd")
-            before, after = [times_of(folder, form, name, moments) for name in ("track.vcd", "mended.vcd")]
-        lost = sum(one != "-" and other == "-" for one, other in zip(before, after))
-        said = any("next to it would have no time, or another one, so they are left out" in line for line in lines)
-        yield same("%s, %d" % (kind, seed), (status, lost, said), (1, 0, True))
+    """A repair is left out, with a remark, if it would take the time of a sample, and what else is damaged is repaired."""
+    made = Made(111, "B", "2", 30, still, several(at(0.3, "split"), at(0.6, "missing")))
+    rise, = {rise for rise, _ in pulses_of(made.sound.text)} - {rise for rise, _ in pulses_of(made.damaged.text)}
+    with tempfile.TemporaryDirectory() as folder:
+        with open(os.path.join(folder, "track.vcd"), "w", encoding="ascii") as file:
+            file.write(made.damaged.text)
+        with taking(folder, rise, 3 * made.interval):
+            status, lines = run_on(folder, "--format=B", "--expression=2", "--apply", "mended.vcd", "track.vcd")
+        with open(os.path.join(folder, "mended.vcd"), encoding="ascii") as file:
+            unlike = set(pulses_of(made.sound.text)) ^ set(pulses_of(file.read()))
+    said = any("next to it would have no time, or another one, so they are left out" in line for line in lines)
+    yield same("a lost pulse, and not a split one", (status, {each for each, _ in unlike}, said), (1, {rise}, True))
 
 
 def upside_down(text, length, begin, end):

@@ -113,8 +113,8 @@ def chain_of_commands():
         yield same("the status", (in_a_shell(command), text_of("new.vcd")), (0, "kept"))
         lines = text_of("timed.txt").splitlines()
         edges, _ = track("B", 2, 30000)
-        # a position identifier is before the first frame
-        wanted = ["061T12:34:%09.6f" % (20 + (time - 40000) / 1e6) for time, _ in edges if 40000 <= time < 2000000]
+        # a position identifier before the first frame has its time, too
+        wanted = ["061T12:34:%09.6f" % (20 + (time - 40000) / 1e6) for time, _ in edges if 30000 <= time < 2000000]
         found = [line.split("\t")[0] for line in lines if line[0] != "-"][:len(wanted)]
         yield same("the times of day", [pair for pair in zip(found, wanted) if pair[0] != pair[1]], [])
 

@@ -6,6 +6,7 @@ the words.
 import json
 import random
 import subprocess
+import tempfile
 
 from built import BUILT
 from cases import case
@@ -18,6 +19,7 @@ from rows.in_process import run
 from rows.tools_apply import in_folder, text_of
 from rows.tools_parts import same
 from rows.tools_rare import MIDDAY, flipped, listed, signal
+from rows.tools_sent import taking
 
 in_process.MAINS.update(irig_mend=mend_program.main)
 
@@ -674,7 +676,11 @@ def of_one_pulse():
     """Noise, and one pulse of the time of its frame that is lost."""
     status, printed, _ = mend("--apply", "new.vcd")
     found = status, " 1 line refused" in printed[0], between(text_of("new.vcd"), 10050000, 10060000)
-    yield same("noise, and one pulse of the time of its frame: fewer samples would have a time", found, (1, True, []))
+    yield same("noise, and one pulse of the time of its frame: no sample loses its time by it", found, (1, False, [10050000, 10052000]))
+    with tempfile.TemporaryDirectory() as folder, taking(folder, 10050000, 30000):
+        status, printed, _ = mend("--apply", "less.vcd")
+    found = status, " 1 line refused" in printed[0], between(text_of("less.vcd"), 10050000, 10060000)
+    yield same("the same, if fewer samples had a time", found, (1, True, []))
 
 
 def of_parts():

@@ -7,22 +7,24 @@ from heapq import merge
 from operator import itemgetter
 from typing import Iterator, List, Optional, Sequence, Tuple
 
-from .align_program import ALIGN_QUIET, COMMA, HEADER
 from .command import kept, run, unchanged
 from .editor import Problem
 from .ending import ALL_RIGHT, FOUND, Usage, complain, name_of
-from .options import OUTPUT, Command, Given
+from .options import OUTPUT, Command, Given, Option, whole
 from .output import check_apart, output
 from .texts import counted
 from .timed_file import FORMS, TAB, TimedLine, TimedFile
 
+COMMA = Option("--comma", "CHARACTER", "what parts columns; white space, if it is not given")
+HEADER = Option("--header", "N", "that many lines are the header", whole(0))
+JOIN_QUIET = Option("--quiet", about="no line at the end says what was done")
 COMMAND = Command("irig_join", ("FILE", "FILE..."), """\
 Joins files of samples to which irig_time has given their times: all lines in the
 order of time. With --header there is one head with the columns of all files, and
 each line has its values below their names. Lines without a time come last.
 
   irig_join --comma , --header 1 first.csv second.csv third.csv > all.csv
-""", (COMMA, HEADER, OUTPUT, ALIGN_QUIET), """\
+""", (COMMA, HEADER, OUTPUT, JOIN_QUIET), """\
 Give --comma and --header as to irig_time. The status is 0, or 1 if the times of a
 file go back somewhere, 2 if a file was not read or its times do not fit those of
 the others, and 70 if memory ran out or the tool has a defect.
@@ -49,7 +51,7 @@ def work(given: Given) -> int:
         check_forms(files)
         with output(given.text(OUTPUT)) as out:
             out.writelines(one_table(files))
-    return said(files, given.has(ALIGN_QUIET))
+    return said(files, given.has(JOIN_QUIET))
 
 
 def comma_of(given: Given) -> Optional[bytes]:

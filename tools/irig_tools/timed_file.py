@@ -5,9 +5,8 @@ import re
 from dataclasses import dataclass, field
 from itertools import islice
 from operator import itemgetter
-from typing import Iterator, List, Optional, Tuple
+from typing import IO, Iterator, List, Optional, Tuple
 
-from .align_lines import each_line
 from .editor import Problem
 
 TAB = b"\t"
@@ -17,7 +16,8 @@ FORMS = (  # of a time: what it is called, and what it looks like
     ("a year, a month and a day", re.compile(rb"[0-9]{4}-[0-9]{2}-[0-9]{2}T[0-9:]{8}\.[0-9]{6}")),
 )
 OF_DAY = re.compile(rb"[0-9]+\.[0-9]{6}")  # as irig_time --form seconds has it
-WITHOUT = re.compile(rb"-|before|unbelieved|step|after|hole|set")  # as irig_time has it, without --why or with it
+WITHOUT = re.compile(rb"-|before|unbelieved|step|after|hole")  # as irig_time has it, without --why or with it
+LONGEST_LINE_READ = 1 << 20  # bytes that irig_time reads, without the newline
 LINE_TOO_LONG = "%s: line %d: too long"
 FIRST_IS_NO_TIME = "%s: line %d begins with no time as irig_time prints it; --header N leaves out the head, and --comma says what parts " \
     "columns"
@@ -101,3 +101,15 @@ class TimedFile:
         if match.groups():
             day = int(match[1])
             self.days = [min(day, *self.days[:1] or [day]), max(day, *self.days[1:] or [day])]
+
+
+def each_line(stream: IO[bytes]) -> Iterator[Tuple[bytes, bool]]:
+    """The lines, up to one that is longer than irig_time reads, and whether each is none of these."""
+    while True:
+        line = stream.readline(LONGEST_LINE_READ + 1)
+        if not line:
+            return
+        is_good = len(line) <= LONGEST_LINE_READ or line.endswith(b"\n")
+        yield line, is_good
+        if not is_good:
+            return
