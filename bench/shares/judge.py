@@ -16,12 +16,14 @@ PROGRAMS = ("irig_ed", "irig_guard", "irig_diff", "irig_time")
 
 
 class Seen(NamedTuple):
-    """A sample: its moment, what was printed for it, how it is (exact, near, wrong, none or guess), and by how much it is off."""
+    """A sample: its moment, what was printed for it, how it is (exact, near, wrong, none or guess), and by how much it is off. By the law
+    of time, how far it can be off, in intervals: 0 if no pulse is missing around it."""
 
     moment: float
     shown: str
     how: str
     off: float
+    bound: float = 0.0
 
 
 class Frame(NamedTuple):

@@ -100,7 +100,7 @@ class Recorder(Draft):
         self.clock = Clock(random.uniform(-MOST_OFF, MOST_OFF))
         self.first = begins * source.length
         self.length = self.clock.place(ends * source.length) - self.clock.place(self.first)
-        self.events, self.places, self.says = [], [], []
+        self.events, self.cuts, self.places, self.says = [], [], [], []
         self.hear()
 
     def record(self) -> None:

@@ -11,11 +11,12 @@ from bisect import bisect_left
 from random import Random
 from typing import Callable, Dict, List, NamedTuple, Optional, Set, Tuple
 
+import attacks
 import damage
 from sent import (
     DAY, FORMATS, HOUR, MINUTE, SECOND, Calendar, Run, Sender, control_elements, digits, has_binary_seconds, has_controls, reads_well,
     year_length)
-from tape import Clock, Event, Tape, Wave, dump, joined
+from tape import Clock, Event, Spliced, Tape, Wave, dump, joined
 
 MOST_JITTER = 0.0005  # of an interval: 5 microseconds in format B
 LEAST_JITTER = 0.00001
@@ -80,6 +81,7 @@ class Draft:
         self.time = self._first_time()
         self.clock = Clock(self.random.uniform(-MOST_OFF, MOST_OFF))
         self.events: List[Event] = []
+        self.cuts: List[Tuple[float, float]] = []  # a place, and the one that is recorded next
         self.parity = False
         self.runs: List[Run] = []
         self.flips: Dict[int, Set[int]] = {}
@@ -141,8 +143,15 @@ class Draft:
 
     def play(self) -> None:
         """What the recorder writes."""
-        self.tape = Tape(self.clock.place(self.first), self.length, self.events)
+        first = self.clock.place(self.first)
+        self.tape = Spliced(first, self.length, self.cuts) if self.cuts else Tape(first, self.length, self.events)
         self.played = self.tape.play(joined([pulse for each in self.wire.pulses for pulse in each]))
+
+    def cut(self, *cuts: Tuple[float, float]) -> None:
+        """At each of these places another one follows. Then it has no events."""
+        self.cuts = list(cuts)
+        self.places += [place for cut in cuts for place in cut]
+        self.says += ["cut from place %d to %d" % cut for cut in cuts]
 
     def any_place(self) -> float:
         """Any place of the recording, before anything is lost."""
@@ -270,6 +279,23 @@ def two(draft: Draft) -> None:
     place = draft.any_place()
     for each in (place, place + draft.random.uniform(0.01, 3) * draft.format.frame):
         draft.event("lose", each, whole_or_any(draft, 0.2, 40))
+
+
+def ends(draft: Draft) -> None:
+    """At most a frame and a half from the begin or the end the recorder loses 0.2 to 40 intervals, or one to three frames."""
+    far = draft.random.uniform(0.02, 1.5) * draft.format.frame
+    frames = draft.random.randint(1, 3) * draft.format.frame * (1 + draft.clock.fast)
+    amount = frames if draft.random.random() < 0.5 else whole_or_any(draft, 0.2, 40)
+    draft.event("lose", draft.clock.place(draft.first) + (far if draft.random.random() < 0.5 else draft.length - far), amount)
+    draft.some_damage(0, 1)
+
+
+def tremble(share: float) -> Callable[[Draft], None]:
+    """Rises are up to a share of the interval late or early."""
+    def before(draft: Draft) -> None:
+        draft.jitter = share * draft.format.interval
+
+    return before
 
 
 def bursts(draft: Draft) -> None:
@@ -405,16 +431,21 @@ KINDS: Dict[str, Kind] = {
     "gap": Kind(nothing, gap),
     "tens": Kind(nothing, tens),
     "two": Kind(nothing, two),
+    "ends": Kind(nothing, ends),
+    "jit2": Kind(tremble(0.02), few),
+    "jit4": Kind(tremble(0.04), few),
 }
+ATTACKS = {name: Kind(*each) for name, each in attacks.KINDS.items()}
 TABLE = ("one", "many", "slip", "hole", "off", "sweep", "parity")  # those of the table in docs/ALIGN.md
 
 
 def make(kind: str, seed: int) -> Recording:
     """The recording of a kind with a seed."""
-    draft = Draft(kind, seed, KINDS[kind].formats)
-    KINDS[kind].before(draft)
+    what = KINDS.get(kind) or ATTACKS[kind]
+    draft = Draft(kind, seed, what.formats)
+    what.before(draft)
     draft.send()
-    KINDS[kind].after(draft)
+    what.after(draft)
     draft.silent_ends()
     draft.play()
     return Recording(kind, seed, draft)

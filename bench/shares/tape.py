@@ -6,7 +6,7 @@ from __future__ import annotations
 
 import math
 from bisect import bisect_left, bisect_right
-from typing import List, NamedTuple, Optional, Sequence
+from typing import List, NamedTuple, Optional, Sequence, Tuple
 
 from sent import Pulse
 
@@ -128,6 +128,22 @@ class Tape:
             later = part.begin - part.place
             played += [(rise + later, fall + later) for rise, fall in heard]
         return joined(played)
+
+
+class Spliced(Tape):
+    """A recording from a place on, in which another place follows at each of some cuts."""
+
+    def __init__(self, place: float, length: float, cuts: Sequence[Tuple[float, float]]) -> None:
+        super().__init__(place, 0.0, [])
+        self.length = length
+        moment = 0.0
+        for end, following in cuts:
+            if moment + end - place >= length:
+                break
+            self.parts.append(Part(moment, moment + end - place, place))
+            moment, place = self.parts[-1].end, following
+            self.cuts.append(moment)
+        self.parts.append(Part(moment, length, place))
 
 
 def joined(pulses: Sequence[Pulse]) -> List[Pulse]:
