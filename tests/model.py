@@ -32,6 +32,12 @@ class Run:
         self.put = put
         self.is_over = False
         self.some_refused = False
+        self.none_fine = False  # of the frames that were listed last
+
+    def said(self, track):
+        """What is said at the end, on the standard error."""
+        more = "no frame is fine: format or expression can be wrong; irig_what FILE says more"
+        return ("irig_ed: %s: %s\n" % (track, more)).encode() if self.none_fine else b""
 
     def script(self, text):
         """All that a script prints."""
@@ -67,7 +73,9 @@ class Run:
         return listing.pulses(self.machine.present, i, j)
 
     def frames(self):
-        return listing.frames(self.machine.present)
+        listed = listing.frames(self.machine.present)
+        self.none_fine = not any(line.endswith(" fine") for line in listed)
+        return listed
 
     def marks(self):
         return listing.marks(self.machine.present)
@@ -205,6 +213,7 @@ def main(words):
         sys.stdout.buffer.flush()
         if run.is_over:
             break
+    sys.stderr.buffer.write(run.said(chosen.track))
     return 1 if run.some_refused else 0
 
 
