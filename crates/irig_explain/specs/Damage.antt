@@ -1,4 +1,4 @@
--- What damage costs, in numbers. This project's own: docs/EXPLAIN.md has the reasons.
+-- What damage costs, in numbers. This project's own: COSTS.md has the reasons.
 use Rattle.std.specs.Prelude.{◌≡◌, ◌∷◌, ◌^◌, []}
 use Rattle.irig_explain.specs.declared.table.TheConstants.{CANNOT, EXTRA, HALF, JUMP, LOGARITHMS}
 use Rattle.irig_explain.specs.declared.table.TheConstants.{MISSING, MORE, NOTHING, NO_FALL}
