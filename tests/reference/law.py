@@ -63,6 +63,7 @@ class Law:
         self.rises = [rise for rise, _ in pulses]
         self.classes = [timecode.class_of(self.interval, fall - rise) for rise, fall in pulses]
         self.in_step = self.steps()
+        self.timed = timed_elements(kind, expression)
         self.fine = times.frames_of(kind, expression, pulses)
         self.believed = self.trusted()
         self.classes_at = {}  # of the elements of the frame of a time
@@ -187,16 +188,15 @@ class Law:
             return False
         time, number = element
         wanted, found = self.wanted(time)[number], self.classes[place]
-        if number < TIME_ELEMENTS[self.kind]:
-            return wanted != found
-        return (wanted == "position") != (found == "position")
+        return wanted != found and (number in self.timed or "position" in (wanted, found))
 
     def wanted(self, time):
-        """The classes of a frame with a time; what carries no time is 0."""
+        """The classes of a frame with a time; control functions are 0. A second 60 has the binary seconds of its own believed frame."""
         if time in self.classes_at:
             return self.classes_at[time]
-        values = {"year": time.year, "days": time.days, "hours": time.hours, "minutes": time.minutes, "seconds": time.micros // 1_000_000,
-                  "hundredths": time.micros // 10_000 % 100, "sbs": 0, "control": 0}
+        second = time.micros // 1_000_000
+        values = {"year": time.year, "days": time.days, "hours": time.hours, "minutes": time.minutes, "seconds": second,
+                  "hundredths": time.micros // 10_000 % 100, "sbs": 3600 * time.hours + 60 * time.minutes + second, "control": 0}
         self.classes_at[time] = timecode.encode(self.kind, self.expression, values)
         return self.classes_at[time]
 
@@ -368,6 +368,14 @@ class Law:
         """The time some microseconds after a point, or before it, in its hour."""
         time, element = self.element_of(point)
         return in_hour(time, element * self.interval + micros)
+
+
+def timed_elements(kind, expression):
+    """The elements that carry a part of the time: its seconds and their parts, the year, the straight binary seconds, and what is between
+    their digits."""
+    layout = timecode.layout(kind, expression)
+    more = [[element for digit in layout[name] for element, _ in digit] for name in ("year", "sbs") if name in layout]
+    return {*range(TIME_ELEMENTS[kind]), *(element for each in more for element in range(min(each), max(each) + 1))}
 
 
 def in_hour(time, micros):

@@ -29,7 +29,7 @@ def begin_of(kind: str) -> int:
     return max(1_000_000, 100 * timecode.INTERVAL[kind])
 
 
-def code(kind: str, *moments: str, interval: int = 0, expression: int = 2, control: int = 0) -> Pulses:
+def code(kind: str, *moments: str, interval: int = 0, expression: int = 2, control: int = 0, year: int = 0) -> Pulses:
     """Frames, one after the other: dddThh:mm:ss.ff of each."""
     interval = interval or timecode.INTERVAL[kind]
     names = ["position"]
@@ -37,8 +37,8 @@ def code(kind: str, *moments: str, interval: int = 0, expression: int = 2, contr
         hours, minutes, seconds = text[4:].split(":")
         whole, _, parts = seconds.partition(".")
         names += timecode.encode(kind, expression, {
-            "days": int(text[:3]), "hours": int(hours), "minutes": int(minutes), "seconds": int(whole),
-            "hundredths": int((parts + "00")[:2]), "year": 0, "sbs": 0, "control": control,
+            "days": int(text[:3]), "hours": int(hours), "minutes": int(minutes), "seconds": int(whole), "control": control,
+            "hundredths": int((parts + "00")[:2]), "year": year, "sbs": 3600 * int(hours) + 60 * int(minutes) + int(whole),
         })
     first = begin_of(kind) - interval
     return [(first + place * interval, first + place * interval + timecode.nominal(interval, name)) for place, name in enumerate(names)]
@@ -155,6 +155,10 @@ ROWS = [
     # one that it is after it. 12:34:57 and 17:05:19 last differ in the elements 20 and 22, 12:34:58 and 17:05:20 first in 4 and 6.
     Row("a clock that is set", "B", code("B", *seconds(56, 57), "061T17:05:20", "061T17:05:21"),
         [(1, 18.5, 0, "12:34:57.185000"), (1, 19.5, 0, "-"), (2, 6.5, 0, "-"), (2, 7.5, 0, "17:05:20.075000")]),
+    # 24 and 21 differ in the elements 50 and 52: two of the first year deny the second
+    Row("a clock whose year is set", "B",
+        code("B", *seconds(56, 57), expression=6, year=24) + code("B", *seconds(*range(56, 60)), expression=6, year=21)[place(2, 0):],
+        [(1, 48.5, 0, "12:34:57.485000"), (1, 49.5, 0, "-"), (2, 41.5, 0, "-"), (2, 42.5, 0, "12:34:58.425000")], expression=6),
     # Elements 45 to 47 are lost. By the second frame the last two that are at the place of others are the identifier 39 and element 37,
     # which is a one; by the first frame the first two after the loss are the identifier 49 and element 52, at the place of 49.
     Row("a stretch that is cut out", "B", cut(FIVE, place(2, 45), 3),
@@ -208,6 +212,8 @@ ROWS = [
     Row("a lost pulse at the end", "B", without(FIVE[:470], place(4, 30)), [(4, 25.5, 0, "12:34:58.255000"), (4, 40.5, 0, "-")]),
     Row("an end that denies", "B", cut(code("B", *seconds(50, 51, 52, 53, 54, 55))[:590], place(3, 60), 100),
         [(2, 99.5, 0, "12:34:52.995000"), (3, 0.5, 0, "-"), (3, 50.5, 0, "-"), (4, 70.5, -1000000, "-")]),
+    Row("an end that the binary seconds deny", "B", cut(code("B", *seconds(50, 51, 52, 53, 54, 55), expression=3), place(4, 45), 100),
+        [(2, 99.5, 0, "12:34:52.995000"), (3, 0.5, 0, "-"), (4, 30.5, 0, "-"), (5, 90.5, -1000000, "-")], expression=3),
     Row("an end that a single pulse denies, next to a hole", "B",
         without(cut(code("B", *seconds(50, 51, 52, 53, 54))[:490], place(2, 60), 100), place(3, 1), place(3, 2)),
         [(2, 50.5, 0, "-")]),
@@ -229,8 +235,9 @@ ROWS = [
         [(0, 90.5, 0, "-"), (1, 41.5, 0, "-"), (1, 42.5, 0, "13:00:00.425000"), (2, 0.5, 0, "13:00:01.005000")]),
     Row("a second 60", "B", code("B", "366T23:59:59", "366T23:59:60", "001T00:00:00", "001T00:00:01"),
         [(0, 50.5, 0, "23:59:59.505000"), (1, 50.5, 0, "23:59:60.505000")], "366"),
-    Row("a broken frame within a second 60", "A", without(code("A", "366T23:59:60.1", "366T23:59:60.2", "366T23:59:60.3"), place(1, 30)),
-        [(1, 10.5, 0, "23:59:60.210500"), (1, 30.5, 0, "23:59:60.230500"), (1, 50.5, 0, "23:59:60.250500")], "366"),
+    Row("a broken frame within a second 60, with binary seconds", "A",
+        without(code("A", *("366T23:59:60.%d" % tenth for tenth in (1, 2, 3)), expression=3), place(1, 30)),
+        [(1, 10.5, 0, "23:59:60.210500"), (1, 30.5, 0, "23:59:60.230500"), (1, 50.5, 0, "23:59:60.250500")], "366", expression=3),
     Row("a broken frame before a second 60", "A", without(code("A", "366T23:59:59.8", "366T23:59:59.9", "366T23:59:60.0"), place(1, 30)),
         [(1, 30.5, 0, "23:59:59.930500"), (2, 10.5, 0, "23:59:60.010500")], "366"),
     Row("the last second of an hour, broken", "B", without(code("B", "061T12:59:57", "061T12:59:58", "061T12:59:59", "061T13:00:00",

@@ -1,10 +1,9 @@
 -- Which pulses deny what they should be by a frame. This project's own.
-use Rattle.std.specs.Prelude.{ℕ, ◌-◌, ◌&&◌, ◌||◌, nat_le, Bool, true, false, List, Option}
+use Rattle.std.specs.Prelude.{ℕ, ◌-◌, ◌&&◌, nat_le, Bool, true, false, List, Option}
 use Rattle.std.specs.Prelude.{Some, None, slice_get, if◌then◌else◌}
 use Rattle.irig_codes.specs.{Encoding.encoded, Fields.fits_in, Format.FormatView}
-use Rattle.irig_codes.specs.declared.width.Element.{Element}
 use Rattle.irig_recording.specs.declared.pulse.Pulse.{Pulse}
-use Rattle.irig_times.specs.{OtherTimes.contradicts, OtherTimes.fields_at, Torn.is_stray}
+use Rattle.irig_times.specs.{OtherTimes.contradicts, Times.fields_at}
 use Rattle.irig_law.specs.{Clocks.clock_of, Elements.element_after, Elements.element_in}
 use Rattle.irig_law.specs.{Names.seen, Rows.rise_in, Rows.runs_in, Rows.row_after, Rows.row_before}
 use Rattle.irig_law.specs.declared.point.Point.{Point}
@@ -13,15 +12,11 @@ use Rattle.irig_law.specs.declared.names.Seen.{Seen}
 use Rattle.irig_law.specs.declared.names.Seen.TheVariants.{Named, Astray, Unknown}
 
 -- a pulse is of another class than an element: a position identifier or none, or of those that
--- carry the time
-abbrev pub is_unlike_in : FormatView → Option Pulse → List Element → ℕ → Bool
-is_unlike_in f p wanted e =
-    contradicts f e p (slice_get wanted e) || is_stray f p (slice_get wanted e)
-
+-- carry a part of the time
 abbrev pub is_unlike : FormatView → Option Pulse → Point → Bool
 is_unlike f p x =
     fits_in f (fields_at f x.frame)
-    && is_unlike_in f p (encoded f (fields_at f x.frame)) x.element
+    && contradicts f x.element p (slice_get (encoded f (fields_at f x.frame)) x.element)
 
 abbrev pub is_denied : FormatView → Option Pulse → Option Point → Bool
 is_denied f p None = false

@@ -1,7 +1,7 @@
 -- The elements of the frame of a time, as they are kept. This project's own.
 use Rattle.std.specs.Prelude.{◌≡◌, true, Option, Some, None}
 use Rattle.irig_codes.specs.{Encoding.encoded, Fields.fits_in, Format.FormatView}
-use Rattle.irig_times.specs.{OtherTimes.fields_at}
+use Rattle.irig_times.specs.{Times.fields_at}
 use Rattle.irig_law.specs.declared.wanted.Wanted.{Wanted}
 
 -- these are the elements of the frame of a time, if its fields fit

@@ -1,23 +1,20 @@
 //! Whether a pulse denies what it should be by a frame. `Lens` shows the pulses of a track. Bounds
 //! in `requires`, as 2 ^ 63, only keep numbers in their types.
 
-ghost use Rattle.std.specs.Prelude.{◌≡◌, ◌<◌, ◌^◌, ℕ, IfSome, Some, slice_get};
-ghost use Rattle.irig_index.specs.Marker.{is_position};
+ghost use Rattle.std.specs.Prelude.{◌≡◌, ◌<◌, ◌^◌, ℕ, IfSome, slice_get};
 ghost use Rattle.irig_law.specs.Denials.{denies_named, denies_seen, is_denied, is_unlike};
-ghost use Rattle.irig_law.specs.Denials.{is_unlike_in};
 ghost use Rattle.irig_law.specs.Wanted.{IsKept};
-ghost use Rattle.irig_times.specs.{OtherTimes.is_identifier, Torn.is_stray};
 
 use crate::frame::Frame;
 use crate::names::Seen;
 use crate::point::{Point, element_in};
 use crate::wanted::{Wanted, wanted_at};
-use irig_codes::{Element, Format, class};
-use irig_times::{contradicts, pulse_at};
+use irig_codes::Format;
+use irig_times::contradicts;
 use irig_track::Lens;
 
 /// Whether a pulse is of another class than an element: a position identifier or none, or of those
-/// that carry the time. False if it is not there.
+/// that carry a part of the time. False if it is not there.
 fn is_unlike(
     pulses: &mut Lens<'_>,
     format: Format,
@@ -37,59 +34,7 @@ fn is_unlike(
     if !wanted.fits {
         return false;
     }
-    is_unlike_in(pulses, format, &wanted.elements, number, point.element)
-}
-
-/// Whether a pulse is of another class than an element of a frame that has these elements.
-fn is_unlike_in(
-    pulses: &mut Lens<'_>,
-    format: Format,
-    wanted: &[Element; 100],
-    number: usize,
-    element: usize,
-) -> bool
-    requires { element < 100 }
-    ensures unlike { result ≡ is_unlike_in format (slice_get pulses.old.track.pulses number)
-        wanted.now element }
-    ensures pulses { pulses.new.track ≡ pulses.old.track }
-{
-    contradicts(pulses, format, wanted, number, element)
-        || is_stray(pulses, format, number, wanted[element])
-}
-
-/// Whether a pulse is a position identifier where none is wanted; false if it is not there.
-fn is_stray(pulses: &mut Lens<'_>, format: Format, number: usize, wanted: Element) -> bool
-    ensures stray { result ≡ is_stray format (slice_get pulses.old.track.pulses number)
-        (Some wanted) }
-    ensures pulses { pulses.new.track ≡ pulses.old.track }
-{
-    match pulse_at(pulses, number) {
-        Some(pulse) => {
-            !is_identifier(wanted)
-                && is_position(class(format, pulse.fall.saturating_sub(pulse.rise)))
-        }
-        None => false,
-    }
-}
-
-/// Whether an element is a position identifier.
-fn is_identifier(element: Element) -> bool
-    ensures { result ≡ is_identifier element }
-{
-    match element {
-        Element::Position => true,
-        _ => false,
-    }
-}
-
-/// Whether a class is that of a position identifier; false for a width of no class.
-fn is_position(class: Option<Element>) -> bool
-    ensures { result ≡ is_position class }
-{
-    match class {
-        Some(Element::Position) => true,
-        _ => false,
-    }
+    contradicts(pulses, format, &wanted.elements, number, point.element)
 }
 
 /// The same of an element, if it is known.

@@ -1,10 +1,14 @@
 -- Known times and known ends of minutes, days and years, proved of the definitions by computing.
-use Rattle.std.proofs.Common.{◌≡◌, ℕ, Bool, true, false, [], ◌∷◌, map, Option, Some, None, refl}
+use Rattle.std.proofs.Common.{◌≡◌, ℕ, Bool, true, false, List, [], ◌∷◌, map, Option, Some, None, refl}
+use Rattle.std.specs.{List.list_any, Prelude.not}
 use Rattle.irig_codes.specs.declared.format.Kind.TheVariants.{A, B, E, G}
+use Rattle.irig_codes.specs.declared.note.Name.TheVariants.{Hundredths, Seconds, Minutes, Hours, Days, Year}
 use Rattle.irig_codes.specs.declared.note.Note.TheVariants.{Fine}
+use Rattle.irig_codes.specs.{Format.FormatView, Layout.Field, Layout.control, Layout.decimal, Layout.rows_of, Layout.sbs}
 use Rattle.irig_codes.specs.{declared.fields.Fields.Fields, declared.format.Kind.Kind}
 use Rattle.irig_index.specs.declared.record.Verdict.TheVariants.{Read}
-use Rattle.irig_times.specs.{declared.time.Time.Time, Elements.share, Follows.is_later, Times.minute_micros, Times.timed}
+use Rattle.irig_times.specs.OtherTimes.{is_timed}
+use Rattle.irig_times.specs.{declared.time.Time.Time, Elements.share, Follows.is_later, Times.minute_micros, Times.second_of_day, Times.timed}
 
 -- a time of a second
 abbrev at : Option ℕ → ℕ → ℕ → ℕ → ℕ → Time
@@ -78,3 +82,30 @@ known-year = refl
 -- a share is rounded down: of a nominal interval, of a fast clock's and of a slow clock's
 pub shares : share 10000 4999 10000 ∷ share 10000 9998 9999 ∷ share 10000 10000 10001 ∷ share 100 0 99 ∷ [] ≡ 4999 ∷ 9998 ∷ 9999 ∷ 0 ∷ []
 shares = refl
+
+-- in the standard's table each element of the time of day, the year and the straight binary seconds carries a part of the time, and no
+-- control function does
+abbrev of-time : List Field
+of-time = decimal Hundredths ∷ decimal Seconds ∷ decimal Minutes ∷ decimal Hours ∷ decimal Days ∷ decimal Year ∷ sbs ∷ []
+
+abbrev is-other-in : FormatView → Bool
+is-other-in f = list_any (λ x. list_any (λ r. not (is_timed f r.element)) (rows_of f x)) of-time
+
+abbrev is-control-in : FormatView → Bool
+is-control-in f = list_any (λ r. is_timed f r.element) (rows_of f control)
+
+abbrev formats : List FormatView
+formats =
+    record { kind = A; expression = 0 } ∷ record { kind = A; expression = 4 } ∷ record { kind = B; expression = 0 }
+    ∷ record { kind = B; expression = 4 } ∷ record { kind = E; expression = 1 } ∷ record { kind = E; expression = 5 }
+    ∷ record { kind = G; expression = 1 } ∷ record { kind = G; expression = 5 } ∷ []
+
+pub timed-elements : list_any is-other-in formats ≡ false
+timed-elements = refl
+
+pub control-elements : list_any is-control-in formats ≡ false
+control-elements = refl
+
+-- 12:34:56 is second 45,296 of its day, and a second 60 after which a day ends is second 86,400
+pub seconds-of-day : second_of_day (at None 61 12 34 56000000) ∷ second_of_day (at None 181 23 59 60000000) ∷ [] ≡ 45296 ∷ 86400 ∷ []
+seconds-of-day = refl

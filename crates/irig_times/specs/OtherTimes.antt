@@ -1,30 +1,15 @@
--- When a pulse says another time than that of a frame. This project's own.
-use Rattle.std.specs.Prelude.{ℕ, ◌/◌, ◌%◌, ◌&&◌, ◌||◌, nat_lt}
-use Rattle.std.specs.Prelude.{Bool, true, false, List, Option, Some, None, if◌then◌else◌}
-use Rattle.std.specs.Prelude.{slice_get}
-use Rattle.irig_codes.specs.Format.{FormatView, carries_sbs, has_control}
-use Rattle.irig_codes.specs.Format.{has_hundredths}
+-- Which elements carry the time of their frame, and when a pulse says another one. This project's
+-- own.
+use Rattle.std.specs.Prelude.{ℕ, ◌+◌, ◌&&◌, ◌||◌, nat_le, nat_lt}
+use Rattle.std.specs.Prelude.{Bool, true, false, Option, Some, None}
+use Rattle.irig_codes.specs.Format.{FormatView, carries_sbs}
+use Rattle.irig_codes.specs.Format.{has_year}
 use Rattle.irig_codes.specs.declared.format.Kind.TheVariants.{A, B, E, G}
 use Rattle.irig_codes.specs.declared.width.Element.TheVariants.{Zero, One, Position}
-use Rattle.irig_codes.specs.{Fields.part}
-use Rattle.irig_codes.specs.{declared.fields.Fields.Fields, declared.format.Kind.Kind}
+use Rattle.irig_codes.specs.{declared.format.Kind.Kind}
 use Rattle.irig_codes.specs.declared.width.Element.{Element}
 use Rattle.irig_recording.specs.declared.pulse.Pulse.{Pulse}
-use Rattle.irig_index.specs.Marker.{class_at}
-use Rattle.irig_times.specs.{declared.time.Time.Time}
-
--- the fields of a frame of a time; those that are no part of it are 0
-abbrev pub fields_at : FormatView → Time → Fields
-fields_at f t = record {
-  hundredths = part (has_hundredths f.kind) (t.micros / 10000 % 100);
-  seconds = t.micros / 1000000;
-  minutes = t.minutes;
-  hours = t.hours;
-  days = t.days;
-  year = t.year;
-  sbs = part (carries_sbs f.kind f.expression) 0;
-  control = part (has_control f.expression) 0;
-}
+use Rattle.irig_index.specs.Marker.{class_at, is_position}
 
 -- how many elements carry the day, the hour, the minute, the second and, in A and G, its tenths and
 -- hundredths, with what is between them
@@ -33,6 +18,27 @@ time_elements A = 49
 time_elements B = 42
 time_elements E = 42
 time_elements G = 54
+
+-- the first of the nine elements of the year
+abbrev pub first_of_year : Kind → ℕ
+first_of_year A = 50
+first_of_year B = 50
+first_of_year E = 50
+first_of_year G = 60
+
+abbrev pub has_year_at : FormatView → ℕ → Bool
+has_year_at f e =
+    has_year f.expression
+    && (nat_le (first_of_year f.kind) e && nat_lt e (first_of_year f.kind + 9))
+
+-- the elements of the straight binary seconds
+abbrev pub has_sbs_at : FormatView → ℕ → Bool
+has_sbs_at f e = carries_sbs f.kind f.expression && (nat_le 80 e && nat_lt e 98)
+
+-- an element carries a part of the time: one of those, of the year, or of the straight binary
+-- seconds, with what is between their digits
+abbrev pub is_timed : FormatView → ℕ → Bool
+is_timed f e = nat_lt e (time_elements f.kind) || (has_year_at f e || has_sbs_at f e)
 
 -- whether a class is not the one that is wanted
 abbrev pub is_other : Option Element → Element → Bool
@@ -53,9 +59,12 @@ is_identifier Zero = false
 is_identifier One = false
 is_identifier Position = true
 
--- whether a pulse says that an element is another one: a position identifier, or one of the time
+-- whether a pulse of a class says that an element is another one: one of the two is a position
+-- identifier, or the element carries a part of the time
+abbrev pub contradicts_by : FormatView → ℕ → Option Element → Element → Bool
+contradicts_by f e c w = is_other c w && (is_identifier w || (is_position c || is_timed f e))
+
 abbrev pub contradicts : FormatView → ℕ → Option Pulse → Option Element → Bool
 contradicts f e None w = false
 contradicts f e (Some p) None = false
-contradicts f e (Some p) (Some w) =
-    (nat_lt e (time_elements f.kind) || is_identifier w) && is_other (class_at f p) w
+contradicts f e (Some p) (Some w) = contradicts_by f e (class_at f p) w

@@ -1,8 +1,7 @@
 use Rattle.std.proofs.Common.{◌≡◌, ◌&&◌, Bool, List, true, slice_get, ap, sym, ◌∙◌}
 use Rattle.irig_codes.specs.{Encoding.encoded, Fields.fits_in}
 use Rattle.irig_codes.specs.declared.width.Element.{Element}
-use Rattle.irig_times.specs.{OtherTimes.fields_at, declared.time.Time.Time}
-use Rattle.irig_law.specs.Denials.{is_unlike_in}
+use Rattle.irig_times.specs.{OtherTimes.contradicts, Times.fields_at, declared.time.Time.Time}
 use Rattle.irig_law.proofs.denials.is_unlike.Goals as goal
 
 pub returns-clause-unlike : goal.returns-clause-unlike
@@ -16,7 +15,7 @@ returns-clause-unlike c =
     let g = fields_at f c.args.point.now.frame in
     let fit : fits_in f g ≡ true =
     sym (is.fits ∙ ap (λ (t : Time). fits_in f (fields_at f t)) time) ∙ c.if-not-wanted.false in
-    c.is_unlike_in.ensures.unlike
-    ∙ (ap (λ (l : List Element). is_unlike_in f p l e)
+    c.contradicts.ensures.answer
+    ∙ (ap (λ (l : List Element). contradicts f e p (slice_get l e))
     (is.elements c.if-not-wanted.false ∙ ap (λ (t : Time). encoded f (fields_at f t)) time)
-    ∙ sym (ap (λ (b : Bool). b && is_unlike_in f p (encoded f g) e) fit))
+    ∙ sym (ap (λ (b : Bool). b && contradicts f e p (slice_get (encoded f g) e)) fit))
