@@ -1,11 +1,11 @@
 mod Above
-mod AnyFrom
-mod Bridges
+pub mod AnyFrom
 mod ChainLists
 mod Denied
 mod Doubted
-mod Each
+pub mod Each
 mod EndsSaid
+mod Holes
 mod Hops
 mod Joined
 mod LastNamed

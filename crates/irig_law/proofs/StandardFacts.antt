@@ -5,8 +5,9 @@ use Rattle.std.specs.Prelude.{get_or}
 use Rattle.irig_times.specs.declared.time.Time.{Time}
 use Rattle.irig_codes.specs.Format.{FormatView}
 use Rattle.irig_codes.specs.declared.format.Kind.TheVariants.{B}
-use Rattle.irig_law.specs.{Bound.rate_of, Bound.units_of, Bridge.off, Elements.element_after, Elements.element_before, Hop.hop, Names.seen}
+use Rattle.irig_law.specs.{Elements.element_after, Elements.element_before, Hop.hop, Names.seen}
 use Rattle.irig_law.specs.Calendar.{micros_after}
+use Rattle.irig_law.specs.Holes.{earliest, latest, rate_of, units_of}
 use Rattle.irig_law.specs.Hours.{earlier_in_hour, later_in_hour}
 use Rattle.irig_law.specs.declared.{clock.Clock.Clock, frame.Frame.Frame}
 use Rattle.irig_law.specs.declared.names.Seen.TheVariants.{Named, Astray}
@@ -52,15 +53,11 @@ later_in_60 = refl
 pub earlier_in_60 : map (λ q. earlier_in_hour 100000 q (at 59 60100000)) (1 ∷ 2 ∷ []) ≡ Some (at 59 60000000) ∷ Some (at 59 59900000) ∷ []
 earlier_in_60 = refl
 
--- a hole of ten intervals in which ten passed, by a clock that runs within a thousandth: in the middle of it the line is off by 5 units
--- of 10,000
-pub bridge : off (record { least = 999; most = 1001 }) 10 10000 5 ≡ 5
-bridge = refl
-
--- the same hole by the clock above, which strays by two parts in a hundred thousand: in the middle, five intervals from each end, the
--- line is off by a ten-thousandth of an interval
-pub bound : off (rate_of clock) 100000 (units_of 10) 50000 ≡ 101050000
-bound = refl
+-- a hole of ten intervals in which ten passed, by the clock above, which strays by two parts in a hundred thousand: in its middle, five
+-- intervals from each end, it is a ten-thousandth of an interval earlier or later at most
+pub hole : earliest (rate_of clock) 100000 (units_of 10) 50000 ∷ latest (rate_of clock) 100000 (units_of 10) 50000 ∷ []
+    ≡ 4999898950000 ∷ 5000101050000 ∷ []
+hole = refl
 
 -- elements of B after a marker at 12:34:56 and before it: 205 after is element 5 of the second after next, 1 before is element 99 of 12:34:55
 abbrev frame : Frame

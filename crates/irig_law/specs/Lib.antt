@@ -1,7 +1,4 @@
 pub mod Believed
-pub mod Bound
-pub mod Bridge
-pub mod BridgeTruth
 pub mod Calendar
 pub mod Chains
 pub mod Clocks
@@ -12,6 +9,7 @@ pub mod Ends
 pub mod Fine
 pub mod Fits
 pub mod Happened
+pub mod Holes
 pub mod Hop
 pub mod Hours
 pub mod Joins

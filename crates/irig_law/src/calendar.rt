@@ -4,7 +4,10 @@ ghost use Rattle.std.specs.Prelude.{◌≡◌, ◌<◌, ◌≤◌, ◌^◌, IfSo
 ghost use Rattle.irig_times.specs.Follows.{next_year, same_year};
 ghost use Rattle.irig_law.specs.Calendar.{inserted, micros_after, micros_in, minute_of_year};
 ghost use Rattle.irig_law.specs.Calendar.{minutes_between, year_days};
+ghost use Rattle.irig_law.specs.Fits.{periods_apart, periods_in};
+ghost use Rattle.irig_codes.specs.Format.{frame_period_of};
 
+use irig_codes::Format;
 use irig_times::Time;
 use jiff_core::civil::days_in_year;
 
@@ -16,6 +19,33 @@ const SECOND: u64 = 1_000_000;
 
 /// A day, in minutes.
 const DAY: u64 = 1440;
+
+/// A recording is shorter, in microseconds.
+const LONGEST: u128 = 1 << 40;
+
+/// How many periods one time is after another, by the calendar; `None` if it is not after it, or by
+/// no whole periods.
+pub fn periods_apart(format: Format, century: u32, from: &Time, to: &Time) -> Option<u64>
+    requires century { century ≤ 99 }
+    ensures periods { result
+        ≡ periods_apart century (frame_period_of format.kind) from.now to.now }
+    ensures few { IfSome result (λ n. n < 2 ^ 33) }
+{
+    periods_in(format.frame_period(), micros_after(century, from, to))
+}
+
+/// How many periods some microseconds are, if they are whole ones.
+fn periods_in(period: u64, micros: u128) -> Option<u64>
+    requires long { 10000 ≤ period }
+    ensures periods { result ≡ periods_in period micros }
+    ensures few { IfSome result (λ n. n < 2 ^ 33) }
+{
+    if 0 < micros && micros < LONGEST && micros % period as u128 == 0 {
+        Some(micros as u64 / period)
+    } else {
+        None
+    }
+}
 
 /// The microseconds from a time to a later one; 0 if the second is not later.
 pub fn micros_after(century: u32, from: &Time, to: &Time) -> u128

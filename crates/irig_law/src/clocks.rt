@@ -92,3 +92,15 @@ pub fn clock_of(pulses: &mut Lens<'_>, format: Format, frame: &Frame, slack: u64
         tenth: 99 * format.interval() / 10,
     }
 }
+
+/// The clock of a frame and the next one, as far as it strays between the two.
+pub fn clock_between(pulses: &mut Lens<'_>, format: Format, from: &Frame, to: &Frame) -> Clock
+    requires { (from.now.marker < 2 ^ 31) × (to.now.marker < 2 ^ 31) }
+    ensures clock { result ≡ clock_of format pulses.old.track.pulses from.now
+        (slack_of pulses.old.track.pulses from.now to.now) }
+    ensures low { result.span ≤ 2 ^ 40 }
+    ensures pulses { pulses.new.track ≡ pulses.old.track }
+{
+    let slack = slack_of(pulses, from, to);
+    clock_of(pulses, format, from, slack)
+}

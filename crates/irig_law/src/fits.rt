@@ -5,44 +5,17 @@
 ghost use Rattle.std.specs.Prelude.{◌≡◌, ◌↔◌, ◌<◌, ◌≤◌, ◌+◌, ◌-◌, ◌^◌, ℕ, IfSome, IsTrue};
 ghost use Rattle.std.specs.Prelude.{MatchOption, Some, length, slice_get};
 ghost use Rattle.irig_law.specs.Clocks.{slack_of};
-ghost use Rattle.irig_law.specs.Fits.{Fits, IsBridged, IsLong, between, periods_apart, periods_in};
+ghost use Rattle.irig_law.specs.Fits.{Fits, IsBridged, IsLong, between};
 ghost use Rattle.irig_law.specs.Seens.{MeetAt, SeenAfter, SeenBefore};
 
-use crate::calendar::micros_after;
+use crate::calendar::periods_apart;
 use crate::clocks::{slack_of, span_of};
 use crate::frame::Frame;
 use crate::names::{Seen, Walk};
 use crate::row::micros_between;
 use crate::seens::{last_named, seen_at};
 use irig_codes::Format;
-use irig_times::Time;
 use irig_track::Lens;
-
-/// A recording is shorter, in microseconds.
-const LONGEST: u128 = 1 << 40;
-
-/// How many periods some microseconds are, if they are whole ones.
-fn periods_in(period: u64, micros: u128) -> Option<u64>
-    requires some { 0 < period }
-    ensures periods { result ≡ periods_in period micros }
-    ensures few { IfSome result (λ n. n < 2 ^ 41) }
-{
-    if 0 < micros && micros < LONGEST && micros % period as u128 == 0 {
-        Some(micros as u64 / period)
-    } else {
-        None
-    }
-}
-
-/// How many periods one time is after another, by the calendar.
-fn periods_apart(century: u32, period: u64, from: &Time, to: &Time) -> Option<u64>
-    requires century { century ≤ 99 }
-    requires some { 0 < period }
-    ensures periods { result ≡ periods_apart century period from.now to.now }
-    ensures few { IfSome result (λ n. n < 2 ^ 41) }
-{
-    periods_in(period, micros_after(century, from, to))
-}
 
 /// Whether some microseconds are that many elements by the clock of both frames, to half an
 /// interval and to what the clock strays.
@@ -153,7 +126,7 @@ pub fn fits(
     ensures few { IfSome result (λ n. n < 2 ^ 41) }
     ensures pulses { pulses.new.track ≡ pulses.old.track }
 {
-    let Some(periods) = periods_apart(century, format.frame_period(), &from.time, &to.time) else {
+    let Some(periods) = periods_apart(format, century, &from.time, &to.time) else {
         return None;
     };
     let last = last_named(after, before.len());

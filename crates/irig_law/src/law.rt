@@ -1,7 +1,7 @@
 //! When the law of time gives true times.
 
-ghost use Rattle.irig_law.specs.{BridgeTruth.BridgesAreBounded, Truth.HopsAreTrue};
-ghost use Rattle.irig_law.specs.{Truth.NamesAreSent, Theorems.BeginTimesAreTrue};
+ghost use Rattle.irig_law.specs.{Holes.HolesAreBounded, Theorem.TimesAreTrue};
+ghost use Rattle.irig_law.specs.{Truth.HopsAreTrue, Truth.NamesAreSent, Theorems.BeginTimesAreTrue};
 ghost use Rattle.irig_law.specs.Theorems.{EndTimesAreTrue, EventfulTimesAreTrue, QuietTimesAreTrue};
 
 /// Does nothing. Its contract is what holds of each recording.
@@ -12,9 +12,9 @@ ghost use Rattle.irig_law.specs.Theorems.{EndTimesAreTrue, EventfulTimesAreTrue,
 /// - So each time that is printed where a pulse rises is the true one: that of the fields of the
 ///   frame that was sent then, and of its element. Between two believed frames without an event
 ///   (`quiet`) and with one (`eventful`), after the last one (`end`) and before the first one
-///   (`begin`).
-/// - In a hole the time is off by no more than its bound, if the clock ran at the rate but for one
-///   event at most (`bridges`).
+///   (`begin`); so each of a whole recording (`points`).
+/// - In a hole the code that passed is within its bounds, if the clock ran at the rate but for one
+///   event at most (`holes`).
 pub fn times_are_true()
     ensures hops { HopsAreTrue }
     ensures names { NamesAreSent }
@@ -22,5 +22,6 @@ pub fn times_are_true()
     ensures eventful { EventfulTimesAreTrue }
     ensures end { EndTimesAreTrue }
     ensures begin { BeginTimesAreTrue }
-    ensures bridges { BridgesAreBounded }
+    ensures points { TimesAreTrue }
+    ensures holes { HolesAreBounded }
 {}

@@ -2,8 +2,6 @@
 #![tactic(auto)]
 
 mod believed;
-mod bound;
-mod bridge;
 mod calendar;
 mod chain;
 mod chains;
@@ -30,13 +28,13 @@ mod stretch;
 mod wanted;
 
 pub use believed::believed_frames;
-pub use bound::bound_between;
-pub use bridge::{Bridge, bridge_over};
+pub use calendar::periods_apart;
 pub use clock::{Clock, hop_over};
+pub use clocks::clock_between;
 pub use frame::Frame;
 pub use law::times_are_true;
 pub use names::{Seen, names_in};
 pub use point::Point;
 pub use points::{points_of, track_points};
-pub use row::Row;
+pub use row::{Row, is_clean, micros_between};
 pub use sides::{Sides, sides_of};

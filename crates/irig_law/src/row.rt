@@ -74,7 +74,7 @@ fn is_joined(pulses: &mut Lens<'_>, format: Format, number: usize) -> bool
 
 /// Whether the two pulses before one and the two after it are in step with it, as far as they are
 /// there. So it is no noise.
-fn is_clean(pulses: &mut Lens<'_>, format: Format, number: usize) -> bool
+pub fn is_clean(pulses: &mut Lens<'_>, format: Format, number: usize) -> bool
     requires { number < 2 ^ 32 }
     ensures clean { result ≡ is_clean format pulses.old.track.pulses number }
     ensures pulses { pulses.new.track ≡ pulses.old.track }

@@ -5,7 +5,7 @@ use Rattle.std.proofs.Math.Nat.{lt-mul-div-succ, mul-div-le, mul-le-mul_left}
 use Rattle.std.proofs.lemmas.Bool.{cases_lt}
 use Rattle.irig_codes.specs.{Format.FormatView, Format.interval_of, declared.format.Kind.Kind}
 use Rattle.irig_codes.specs.declared.format.Kind.TheVariants.{A, B, E, G}
-use Rattle.irig_law.specs.{Bound.units_of, Bridge.Rate, BridgeTruth.BridgesAreBounded}
+use Rattle.irig_law.specs.{Holes.units_of, Holes.Rate, Holes.HolesAreBounded}
 use Rattle.irig_timed.specs.{Gaps.most_off, Line.over_in, Truths.PassesNearly, Truths.units_in}
 
 unscaled : (k a b : ℕ) → 0 < k → k * a ≤ k * b → a ≤ b
@@ -43,7 +43,7 @@ whole-units B n = omega arith
 whole-units E n = omega arith
 whole-units G n = omega arith
 
-pub passes_nearly : BridgesAreBounded → (f : FormatView) (r : Rate) (long n bound d x : ℕ) → 0 < d * long → x ≤ d * long → bound ≡ most_off r long (units_of n)
+pub passes_nearly : HolesAreBounded → (f : FormatView) (r : Rate) (long n bound d x : ℕ) → 0 < d * long → x ≤ d * long → bound ≡ most_off r long (units_of n)
     → PassesNearly f r long n bound d x (over_in f n x (d * long))
 passes_nearly bridges f r long n bound d x some le is passed hole =
     let all = d * long in

@@ -8,9 +8,9 @@ use Rattle.irig_track.specs.{Track.IsLongTrack}
 use Rattle.irig_track.proofs.Searches.{risen_above, risen_below}
 use Rattle.irig_times.specs.{Steps.apart, Torn.micros_between, declared.time.Time.Time}
 use Rattle.irig_times.specs.declared.why.Why.TheVariants.{Hole, Step}
-use Rattle.irig_law.specs.{Bound.rate_of, Bound.units_of, Bridge.Rate, Clocks.clock_of, Clocks.slack_of}
+use Rattle.irig_law.specs.{Holes.rate_of, Holes.units_of, Holes.Rate, Clocks.clock_of, Clocks.slack_of}
 use Rattle.irig_law.specs.declared.{frame.Frame.Frame}
-use Rattle.irig_law.specs.{BridgeTruth.BridgesAreBounded, Theorem.TimesAreTrue}
+use Rattle.irig_law.specs.{Holes.HolesAreBounded, Theorem.TimesAreTrue}
 use Rattle.irig_timed.specs.{Apart.elements_after, Moments.IsMomentBy, Stretches.stretch_at, Truths.MomentsAreTrue}
 use Rattle.irig_timed.specs.Gaps.{gap_by, gap_of, gap_over, is_event, is_free, is_step, most_off, widest}
 use Rattle.irig_timed.specs.declared.gap.Gap.{Gap}
@@ -80,7 +80,7 @@ module _ (f : FormatView) (century micros : ℕ) (ps : List Pulse) (frames : Lis
   pub long-is : micros_between ps m.from.number m.to.number ≡ m.next.rise - m.point.rise
   long-is = λ i. apart (m.stands i) (m.stands_next i)
 
-pub moments_are_true : TimesAreTrue → BridgesAreBounded → MomentsAreTrue
+pub moments_are_true : TimesAreTrue → HolesAreBounded → MomentsAreTrue
 moments_are_true times_true bridges f century micros ps frames name sent track story d n some time bound m = record {
   begins = times_true f century ps frames name sent story m.from.number m.from.point m.around.last.1.point;
   ends = times_true f century ps frames name sent story m.to.number m.to.point m.around.next.1.point;

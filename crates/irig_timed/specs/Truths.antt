@@ -5,7 +5,7 @@ use Rattle.irig_codes.specs.{Format.FormatView, Format.interval_of, declared.fie
 use Rattle.irig_recording.specs.declared.pulse.Pulse.{Pulse}
 use Rattle.irig_times.specs.declared.time.Time.{Time}
 use Rattle.irig_track.specs.Track.{IsLongTrack}
-use Rattle.irig_law.specs.{Bound.rate_of, Bound.units_of, Bridge.Rate, BridgeTruth.Hole}
+use Rattle.irig_law.specs.{Holes.rate_of, Holes.units_of, Holes.Rate, Holes.Hole}
 use Rattle.irig_law.specs.{Clocks.clock_of, Clocks.slack_of, declared.frame.Frame.Frame}
 use Rattle.irig_law.specs.{Printed.printed, Printed.true_time, Theorem.Story}
 use Rattle.irig_timed.specs.{Apart.elements_after, Line.over_in, Moments.IsMomentBy}

@@ -2,7 +2,7 @@
 //! has a time. Bounds in `requires`, as 2 ^ 26, only keep sums in their types.
 
 ghost use Rattle.std.specs.Prelude.{◌≡◌, ◌<◌, ◌≤◌, ◌+◌, ◌^◌, IfSome, Some, length};
-ghost use Rattle.irig_law.specs.{Bound.rate_of, Bound.units_of};
+ghost use Rattle.irig_law.specs.{Holes.rate_of, Holes.units_of};
 ghost use Rattle.irig_timed.specs.Gaps.{gap_at, gap_between, gap_by, gap_in, gap_of, gap_over};
 ghost use Rattle.irig_timed.specs.Gaps.{is_event, is_step, most_off};
 ghost use Rattle.irig_timed.specs.Stretches.{AreFramesOf, stretch_at};
