@@ -5,7 +5,7 @@ use Rattle.std.proofs.lemmas.Bool.{and_from, and_parts, cases_eq, cases_lt, cond
 use Rattle.std.proofs.lemmas.Option.{none-some, same_Some, slice_get-get_or, slice_get_within}
 use Rattle.irig_codes.specs.Format.{FormatView}
 use Rattle.irig_recording.specs.declared.pulse.Pulse.{Pulse}
-use Rattle.irig_times.specs.OtherTimes.{time_elements}
+use Rattle.irig_times.specs.TimedElements.{time_elements}
 use Rattle.irig_law.specs.{Clocks.end_slack, Denials.seen_after, Denials.seen_before, Elements.element_after, Elements.element_before}
 use Rattle.irig_law.specs.EndPoints.{AreInStep, begin_of, end_of}
 use Rattle.irig_law.specs.Ends.{IsAfterLast, IsBeforeFirst, IsInStepAfter, IsInStepBefore, IsSureAfter, IsSureBefore}

@@ -7,7 +7,7 @@ use Rattle.irig_codes.specs.Format.{FormatView, frame_period_of, interval_of}
 use Rattle.irig_codes.specs.declared.{fields.Fields.Fields, format.Kind.Kind}
 use Rattle.irig_codes.specs.declared.format.Kind.TheVariants.{A, B, E, G}
 use Rattle.irig_recording.specs.declared.pulse.Pulse.{Pulse}
-use Rattle.irig_times.specs.{OtherTimes.time_elements, Parts.plus, Times.minute_micros, Times.time_in, declared.time.Time.Time}
+use Rattle.irig_times.specs.{TimedElements.time_elements, Times.plus, Times.minute_micros, Times.time_in, declared.time.Time.Time}
 use Rattle.irig_law.specs.{Clocks.clock_of, Clocks.end_slack, Clocks.slack_of, Denials.seen_after, Denials.seen_before}
 use Rattle.irig_law.specs.Elements.{element_after, element_at, element_before}
 use Rattle.irig_law.specs.Hours.{at_hour, at_minute, earlier_by, earlier_in_hour, hour_micros, later_by, later_in_hour}

@@ -5,7 +5,7 @@ use Rattle.std.proofs.lemmas.Bool.{cases_lt}
 use Rattle.std.proofs.lemmas.Option.{same_Some, slice_get-get_or, slice_get_within}
 use Rattle.irig_codes.specs.Format.{FormatView}
 use Rattle.irig_recording.specs.declared.pulse.Pulse.{Pulse}
-use Rattle.irig_times.specs.OtherTimes.{time_elements}
+use Rattle.irig_times.specs.TimedElements.{time_elements}
 use Rattle.irig_law.specs.{Ends.IsAfterLast, Ends.IsBeforeFirst, Law.IsBetween, Stretches.stretch}
 use Rattle.irig_law.specs.Joins.{AreJoined, AreSaid, Knows}
 use Rattle.irig_law.specs.Points.{AreFrames, IsPoint, IsSaid}

@@ -3,7 +3,7 @@ use Rattle.std.specs.Prelude.{ℕ, ◌-◌, ◌&&◌, nat_le, Bool, true, false,
 use Rattle.std.specs.Prelude.{Some, None, slice_get, if◌then◌else◌}
 use Rattle.irig_codes.specs.{Encoding.encoded, Fields.fits_in, Format.FormatView}
 use Rattle.irig_recording.specs.declared.pulse.Pulse.{Pulse}
-use Rattle.irig_times.specs.{OtherTimes.contradicts, Times.fields_at}
+use Rattle.irig_times.specs.{TimedElements.contradicts, Times.fields_at}
 use Rattle.irig_law.specs.{Clocks.clock_of, Elements.element_after, Elements.element_in}
 use Rattle.irig_law.specs.{Names.seen, Rows.rise_in, Rows.runs_in, Rows.row_after, Rows.row_before}
 use Rattle.irig_law.specs.declared.point.Point.{Point}

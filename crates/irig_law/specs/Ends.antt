@@ -4,7 +4,7 @@ use Rattle.std.specs.Prelude.{◌≡◌, ◌⊎◌, ℕ, ◌+◌, ◌-◌, ◌�
 use Rattle.std.specs.Prelude.{length, slice_get}
 use Rattle.irig_codes.specs.Format.{FormatView}
 use Rattle.irig_recording.specs.declared.pulse.Pulse.{Pulse}
-use Rattle.irig_times.specs.OtherTimes.{time_elements}
+use Rattle.irig_times.specs.TimedElements.{time_elements}
 use Rattle.irig_law.specs.{Clocks.clock_of, Clocks.end_slack, Denials.denies_named}
 use Rattle.irig_law.specs.{Denials.seen_after, Denials.seen_before, Elements.element_after}
 use Rattle.irig_law.specs.{Elements.element_before, Elements.element_in, Names.seen_loosely}

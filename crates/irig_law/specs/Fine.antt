@@ -4,7 +4,7 @@ use Rattle.std.specs.Prelude.{ℕ, ◌+◌, List, [], ◌∷◌, slice_get, Opti
 use Rattle.irig_codes.specs.{Format.FormatView, declared.fields.Fields.Fields}
 use Rattle.irig_recording.specs.declared.pulse.Pulse.{Pulse}
 use Rattle.irig_index.specs.{Frames.frames, declared.record.Record.Record}
-use Rattle.irig_times.specs.{Times.time_in, Times.timed, Torn.micros_between}
+use Rattle.irig_times.specs.{Times.time_in, Times.timed, Steps.micros_between}
 use Rattle.irig_law.specs.declared.fine.Fine.{Fine}
 
 -- when a pulse rises

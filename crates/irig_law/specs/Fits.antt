@@ -3,7 +3,7 @@ use Rattle.std.specs.Prelude.{◌≡◌, ◌⊎◌, ℕ, ◌+◌, ◌-◌, ◌*�
 use Rattle.std.specs.Prelude.{List, Option, Some, None, if◌then◌else◌}
 use Rattle.irig_codes.specs.Format.{FormatView, frame_period_of}
 use Rattle.irig_recording.specs.declared.pulse.Pulse.{Pulse}
-use Rattle.irig_times.specs.{Torn.micros_between, declared.time.Time.Time}
+use Rattle.irig_times.specs.{Steps.micros_between, declared.time.Time.Time}
 use Rattle.irig_law.specs.Calendar.{micros_after}
 use Rattle.irig_law.specs.{Clocks.apart, Clocks.clock_of, Clocks.slack_of, Clocks.span_of}
 use Rattle.irig_law.specs.{Denials.seen_after, Denials.seen_before, Names.walk}

@@ -3,7 +3,7 @@
 use Rattle.std.specs.Prelude.{◌≡◌, ◌⊎◌, ℕ, ◌+◌, ◌-◌, ◌≤◌, ◌<◌, List, Some}
 use Rattle.irig_codes.specs.Format.{FormatView}
 use Rattle.irig_recording.specs.declared.pulse.Pulse.{Pulse}
-use Rattle.irig_times.specs.OtherTimes.{time_elements}
+use Rattle.irig_times.specs.TimedElements.{time_elements}
 use Rattle.irig_law.specs.{Clocks.slack_of, Denials.seen_after, Denials.seen_before}
 use Rattle.irig_law.specs.{Elements.element_after, Fits.Fits, Quiet.quiet_element, Sides.IsAfter}
 use Rattle.irig_law.specs.{Sides.IsBefore, Stretches.by_second, Stretches.first_denials}

@@ -3,7 +3,7 @@
 use Rattle.std.specs.Prelude.{◌≡◌, ℕ, ◌+◌, ◌≤◌, ◌<◌, List, length, slice_get, Some}
 use Rattle.irig_codes.specs.Format.{FormatView}
 use Rattle.irig_recording.specs.declared.pulse.Pulse.{Pulse}
-use Rattle.irig_times.specs.OtherTimes.{time_elements}
+use Rattle.irig_times.specs.TimedElements.{time_elements}
 use Rattle.irig_law.specs.{Ends.IsAfterLast, Ends.IsBeforeFirst, Law.IsBetween}
 use Rattle.irig_law.specs.declared.frame.Frame.{Frame}
 use Rattle.irig_law.specs.declared.point.Point.{Point}

@@ -3,7 +3,7 @@
 use Rattle.std.specs.Prelude.{◌≡◌, ℕ, ◌+◌, ◌-◌, ◌*◌, ◌/◌, ◌%◌, ◌<◌, ◌≤◌}
 use Rattle.irig_codes.specs.Format.{FormatView, frame_period_of, interval_of}
 use Rattle.irig_codes.specs.declared.fields.Fields.{Fields}
-use Rattle.irig_times.specs.{Parts.plus, Times.time_in, declared.time.Time.Time}
+use Rattle.irig_times.specs.{Times.plus, Times.time_in, declared.time.Time.Time}
 use Rattle.irig_law.specs.Hours.{at_hour, at_minute, hour_micros}
 use Rattle.irig_law.specs.declared.point.Point.{Point}
 use Rattle.irig_law.specs.declared.frame.Frame.{Frame}

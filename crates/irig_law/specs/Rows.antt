@@ -4,7 +4,7 @@ use Rattle.std.specs.Prelude.{ℕ, ◌+◌, ◌-◌, ◌==◌, ◌&&◌, ◌||�
 use Rattle.std.specs.Prelude.{length, if◌then◌else◌}
 use Rattle.irig_codes.specs.Format.{FormatView}
 use Rattle.irig_recording.specs.declared.pulse.Pulse.{Pulse}
-use Rattle.irig_times.specs.{Steps.is_in_step_at, Torn.micros_between}
+use Rattle.irig_times.specs.{Steps.is_in_step_at, Steps.micros_between}
 use Rattle.irig_law.specs.declared.frame.Frame.{Frame}
 use Rattle.irig_law.specs.declared.row.Row.{Row}
 

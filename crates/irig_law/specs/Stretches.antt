@@ -5,7 +5,7 @@ use Rattle.std.specs.Prelude.{ℕ, zero, suc, ◌+◌, ◌-◌, ◌==◌, nat_le
 use Rattle.std.specs.Prelude.{Bool, true, List, [], ◌∷◌, Option, Some, None, if◌then◌else◌}
 use Rattle.irig_codes.specs.Format.{FormatView}
 use Rattle.irig_recording.specs.declared.pulse.Pulse.{Pulse}
-use Rattle.irig_times.specs.OtherTimes.{time_elements}
+use Rattle.irig_times.specs.TimedElements.{time_elements}
 use Rattle.irig_law.specs.{Clocks.slack_of, Denials.denies_first, Denials.denies_second}
 use Rattle.irig_law.specs.{Elements.element_after}
 use Rattle.irig_law.specs.{Elements.element_before}

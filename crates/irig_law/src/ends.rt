@@ -8,7 +8,7 @@ ghost use Rattle.std.specs.Prelude.{Option, false, if◌then◌else◌, is_some,
 ghost use Rattle.irig_law.specs.{Denials.denies_named, EndPoints.begin_of, EndPoints.end_of};
 ghost use Rattle.irig_law.specs.Ends.{IsAfterLast, IsBeforeFirst, IsSure, seen_at_end};
 ghost use Rattle.irig_law.specs.Rows.{place_in};
-ghost use Rattle.irig_times.specs.OtherTimes.{time_elements};
+ghost use Rattle.irig_times.specs.TimedElements.{time_elements};
 
 use crate::clocks::{clock_of, end_slack};
 use crate::denials::denies_named;

@@ -3,7 +3,7 @@
 //! in their types.
 
 ghost use Rattle.std.specs.Prelude.{◌≡◌, ◌<◌, ◌≤◌, ◌+◌, ◌^◌, slice_get};
-ghost use Rattle.irig_times.specs.Torn.{micros_between};
+ghost use Rattle.irig_times.specs.Steps.{micros_between};
 ghost use Rattle.irig_law.specs.Rows.{half_in, is_clean, is_half_clean, is_joined, place_in};
 ghost use Rattle.irig_law.specs.Rows.{rise_in, runs_in};
 

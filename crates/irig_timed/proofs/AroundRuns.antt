@@ -5,7 +5,7 @@ use Rattle.std.proofs.lemmas.Option.{same_Some}
 use Rattle.irig_codes.specs.{Format.FormatView, Format.frame_period_of, Width.is_in_step}
 use Rattle.irig_index.specs.Frames.{frames}
 use Rattle.irig_recording.specs.declared.pulse.Pulse.{Pulse}
-use Rattle.irig_times.specs.{Torn.micros_between}
+use Rattle.irig_times.specs.{Steps.micros_between}
 use Rattle.irig_times.specs.declared.why.Why.TheVariants.{Step}
 use Rattle.irig_times.proofs.SameTimes.{same-time}
 use Rattle.irig_law.specs.{Fits.periods_apart, declared.frame.Frame.Frame}

@@ -5,7 +5,7 @@ use Rattle.std.proofs.lemmas.List.{length-set}
 use Rattle.std.proofs.lemmas.Option.{none-some, same_Some, slice_get_within}
 use Rattle.irig_codes.specs.{Format.FormatView, Width.is_in_step}
 use Rattle.irig_recording.specs.declared.pulse.Pulse.{Pulse}
-use Rattle.irig_times.specs.Torn.{micros_between}
+use Rattle.irig_times.specs.Steps.{micros_between}
 use Rattle.irig_law.specs.declared.point.Point.{Point}
 use Rattle.irig_timed.proofs.Lists.{at-end, at-front, one-longer}
 use Rattle.irig_timed.specs.{Elements.GoesOn, Elements.IsWith, Elements.longer, Runs.AreRunsTo, Runs.IsIn, Runs.IsRun}

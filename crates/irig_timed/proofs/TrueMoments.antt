@@ -6,7 +6,7 @@ use Rattle.irig_codes.specs.{Format.FormatView}
 use Rattle.irig_recording.specs.declared.pulse.Pulse.{Pulse}
 use Rattle.irig_track.specs.{Track.IsLongTrack}
 use Rattle.irig_track.proofs.Searches.{risen_above, risen_below}
-use Rattle.irig_times.specs.{Steps.apart, Torn.micros_between, declared.time.Time.Time}
+use Rattle.irig_times.specs.{Steps.apart, Steps.micros_between, declared.time.Time.Time}
 use Rattle.irig_times.specs.declared.why.Why.TheVariants.{Hole, Step}
 use Rattle.irig_law.specs.{Holes.rate_of, Holes.units_of, Holes.Rate, Clocks.clock_of, Clocks.slack_of}
 use Rattle.irig_law.specs.declared.{frame.Frame.Frame}

@@ -5,7 +5,7 @@ use Rattle.std.proofs.lemmas.Option.{slice_get-get_or, slice_get_within}
 use Rattle.irig_codes.specs.{Format.FormatView, declared.fields.Fields.Fields, declared.format.Kind.Kind}
 use Rattle.irig_codes.specs.declared.format.Kind.TheVariants.{A, B, E, G}
 use Rattle.irig_recording.specs.declared.pulse.Pulse.{Pulse}
-use Rattle.irig_times.specs.OtherTimes.{time_elements}
+use Rattle.irig_times.specs.TimedElements.{time_elements}
 use Rattle.irig_law.specs.{Points.IsPoint, Printed.printed, Printed.true_time, Theorem.Story, Theorem.TimesAreTrue}
 use Rattle.irig_law.specs.Theorems.{BeginTimesAreTrue, EndTimesAreTrue, EventfulTimesAreTrue, QuietTimesAreTrue}
 use Rattle.irig_law.specs.declared.{frame.Frame.Frame, point.Point.Point}

@@ -3,7 +3,7 @@ use Rattle.std.specs.Prelude.{◌≡◌, ◌↔◌, ℕ, ◌+◌, ◌-◌, true,
 use Rattle.std.specs.Prelude.{slice_get, if◌then◌else◌}
 use Rattle.irig_codes.specs.{Format.FormatView, Width.is_in_step}
 use Rattle.irig_recording.specs.declared.pulse.Pulse.{Pulse}
-use Rattle.irig_times.specs.Torn.{micros_between}
+use Rattle.irig_times.specs.Steps.{micros_between}
 use Rattle.irig_law.specs.declared.point.Point.{Point}
 use Rattle.irig_timed.specs.{Line.is_in_hour, Runs.AreRunsTo, Runs.IsIn, declared.run.Run.Run}
 

@@ -4,7 +4,7 @@ use Rattle.std.specs.Prelude.{ℕ, ◌+◌, ◌-◌, ◌*◌, ◌==◌, ◌&&◌
 use Rattle.std.specs.Prelude.{List, Option, Some, None, if◌then◌else◌}
 use Rattle.irig_codes.specs.{Format.FormatView, Width.is_in_step}
 use Rattle.irig_recording.specs.declared.pulse.Pulse.{Pulse}
-use Rattle.irig_times.specs.Torn.{micros_between}
+use Rattle.irig_times.specs.Steps.{micros_between}
 use Rattle.irig_times.specs.declared.why.Why.TheVariants.{After, Before, Hole, Step}
 use Rattle.irig_law.specs.{Holes.rate_of, Holes.units_of, Holes.Rate}
 use Rattle.irig_law.specs.{Clocks.clock_of, Clocks.slack_of, OfOne.any_from, Rows.is_clean}

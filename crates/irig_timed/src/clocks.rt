@@ -2,7 +2,7 @@
 
 ghost use Rattle.std.specs.Prelude.{◌≡◌, ◌<◌, ◌≤◌, ◌^◌, slice_get};
 ghost use Rattle.irig_law.specs.Clocks.{apart, clock_of, slack_of, span_of, strays, strays_most};
-ghost use Rattle.irig_times.specs.Torn.{micros_between};
+ghost use Rattle.irig_times.specs.Steps.{micros_between};
 
 use irig_codes::Format;
 use irig_law::{Clock, Frame};

@@ -7,7 +7,7 @@ use Rattle.irig_codes.specs.declared.note.Note.TheVariants.{Fine}
 use Rattle.irig_codes.specs.{Format.FormatView, Layout.Field, Layout.control, Layout.decimal, Layout.rows_of, Layout.sbs}
 use Rattle.irig_codes.specs.{declared.fields.Fields.Fields, declared.format.Kind.Kind}
 use Rattle.irig_index.specs.declared.record.Verdict.TheVariants.{Read}
-use Rattle.irig_times.specs.OtherTimes.{is_timed}
+use Rattle.irig_times.specs.TimedElements.{is_timed}
 use Rattle.irig_times.specs.{declared.time.Time.Time, Elements.share, Follows.is_later, Times.minute_micros, Times.second_of_day, Times.timed}
 
 -- a time of a second

@@ -4,7 +4,7 @@ use Rattle.irig_codes.specs.Format.{FormatView, frame_period_of}
 use Rattle.irig_codes.specs.declared.fields.Fields.{Fields}
 use Rattle.irig_recording.specs.declared.pulse.Pulse.{Pulse}
 use Rattle.irig_index.specs.{Frames.frames, declared.record.Record.Record}
-use Rattle.irig_times.specs.{declared.time.Time.Time, Follows.is_later, Times.time_in, Times.timed}
+use Rattle.irig_times.specs.{Follows.is_later, Times.time_in, Times.timed}
 
 -- some records are the frames of a track
 pub record AreFrames (f : FormatView) (rs : List Record) : Type 0 where

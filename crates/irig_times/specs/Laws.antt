@@ -1,5 +1,5 @@
 -- Times in one order, and times of the calendar. This project's own.
-use Rattle.std.specs.Prelude.{◌≡◌, ◌≤◌, IfSome}
+use Rattle.std.specs.Prelude.{◌≤◌, IfSome}
 use Rattle.irig_times.specs.declared.time.Time.{Time}
 
 -- a time is a minute of an hour of a day of a year; the year, if it is known, has two digits

@@ -2,9 +2,7 @@ pub mod Elements
 pub mod Follows
 pub mod FrameLooks
 pub mod Laws
-pub mod OtherTimes
-pub mod Parts
 pub mod Starts
 pub mod Steps
+pub mod TimedElements
 pub mod Times
-pub mod Torn

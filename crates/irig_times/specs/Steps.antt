@@ -12,12 +12,17 @@ is_regular f None q = false
 is_regular f (Some p) None = false
 is_regular f (Some p) (Some q) = follows f p q
 
--- how long after the one before it the pulse with this number rises; 0 if one of them is not there
+-- how long after one pulse another rises; 0 if one of them is not there
 abbrev pub apart : Option Pulse → Option Pulse → ℕ
 apart None q = 0
 apart (Some p) None = 0
 apart (Some p) (Some q) = q.rise - p.rise
 
+-- the same of the pulses with these numbers
+abbrev pub micros_between : List Pulse → ℕ → ℕ → ℕ
+micros_between ps one other = apart (slice_get ps one) (slice_get ps other)
+
+-- and of the pulse with a number, after the one before it
 abbrev pub step_at : List Pulse → ℕ → ℕ
 step_at ps zero = 0
 step_at ps (suc k) = apart (slice_get ps k) (slice_get ps (suc k))

@@ -26,6 +26,16 @@ time_in g n = record {
   micros = minute_micros g + n;
 }
 
+-- the time some microseconds after another, in its minute
+abbrev pub plus : Time → ℕ → Time
+plus t n = record {
+  year = t.year;
+  days = t.days;
+  hours = t.hours;
+  minutes = t.minutes;
+  micros = t.micros + n;
+}
+
 -- the second of the day, in 17 bits; a second 60 has what its own frame shows, as none is counted
 -- into it
 abbrev pub second_of_day : Time → ℕ

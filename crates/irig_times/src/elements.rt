@@ -3,9 +3,9 @@
 ghost use Rattle.std.specs.Prelude.{◌≡◌, ◌<◌, ◌^◌, slice_get};
 ghost use Rattle.irig_codes.specs.Fields.{part};
 ghost use Rattle.irig_index.specs.Marker.{is_position};
-ghost use Rattle.irig_times.specs.OtherTimes.{contradicts, contradicts_by, first_of_year};
-ghost use Rattle.irig_times.specs.OtherTimes.{has_sbs_at, has_year_at, is_identifier, is_other};
-ghost use Rattle.irig_times.specs.OtherTimes.{is_timed, time_elements};
+ghost use Rattle.irig_times.specs.TimedElements.{contradicts, contradicts_by, first_of_year};
+ghost use Rattle.irig_times.specs.TimedElements.{has_sbs_at, has_year_at, is_identifier, is_other};
+ghost use Rattle.irig_times.specs.TimedElements.{is_timed, time_elements};
 ghost use Rattle.irig_times.specs.Times.{fields_at, second_of_day};
 
 use crate::steps::pulse_at;

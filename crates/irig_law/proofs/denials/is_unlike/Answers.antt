@@ -1,7 +1,7 @@
 use Rattle.std.proofs.Common.{◌≡◌, ◌&&◌, Bool, List, true, slice_get, ap, sym, ◌∙◌}
 use Rattle.irig_codes.specs.{Encoding.encoded, Fields.fits_in}
 use Rattle.irig_codes.specs.declared.width.Element.{Element}
-use Rattle.irig_times.specs.{OtherTimes.contradicts, Times.fields_at, declared.time.Time.Time}
+use Rattle.irig_times.specs.{TimedElements.contradicts, Times.fields_at, declared.time.Time.Time}
 use Rattle.irig_law.proofs.denials.is_unlike.Goals as goal
 
 pub returns-clause-unlike : goal.returns-clause-unlike
