@@ -36,9 +36,6 @@ two-after list last before none is some inside between second k = (to, from)
       ]
     ]
 
-pub none-after : (list : List Bool) → ((k : ℕ) → 0 ≤ k → Denies list k → ⊥) → (k : ℕ) → (k < 0 → TwoAfter list k) × (TwoAfter list k → k < 0)
-none-after list none k = ((λ less. absurd (omega (arith, less))), (λ t. absurd (none t.one (omega arith) t.denies)))
-
 -- an event is possible at the first that denies the first names, if none after it denies the second names
 pub possible : (first second : List Bool) (denied last : ℕ) → ((k : ℕ) → 0 ≤ k → k < denied → Denies first k → ⊥)
     → ((k : ℕ) → last ≤ k → k < length second → Denies second k → ⊥) → last ≤ denied + 1 → IsPossible first second denied

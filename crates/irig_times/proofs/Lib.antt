@@ -1,11 +1,10 @@
--- values of the calendar and of shares, computed
+-- known values, computed
 pub mod StandardFacts
 -- frames that are read, and records in order
 pub mod SoundFrames
 pub mod Records
 -- times
 pub mod SameTimes
-pub mod Shares
 pub mod Calendar
 -- looks
 pub mod FrameLookLemmas

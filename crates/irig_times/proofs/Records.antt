@@ -37,13 +37,6 @@ module _ (f : FormatView) (ps : List Pulse) where
     | inr near ↦ absurd (none-within f ps r.marker g Fine (frame-reads i r g here tells) s (frame-tells j s there) lt near)
   ]
 
-  -- a marker is a pulse
-  pub marker-stands : (number : ℕ) (g : Fields) → IsElement f (frames f ps) number 0 g → (p : Pulse) × (slice_get ps number ≡ Some p)
-  marker-stands number g is =
-      let it = frame-tells is.at is.one is.there in
-      let place : is.one.marker ≡ number = omega (arith, is.place) in
-      (it.marker, ap (slice_get ps) (sym place) ∙ it.stands)
-
 module _ (rs : List Record) (number m : ℕ) (one : Record) (rise : MarkersRise rs) (here : slice_get rs m ≡ Some one) where
   -- up to a record of a marker up to a number, all are
   pub up_to_here : one.marker ≤ number → (k : ℕ) (r : Record) → slice_get rs k ≡ Some r → k < m + 1 → r.marker ≤ number
