@@ -12,7 +12,6 @@ mod AroundRuns
 mod MomentFacts
 -- times that are true
 mod NearLines
-mod TruePoints
 mod TrueMoments
 -- times of the calendar, and reasons
 pub mod TimedCalendar

@@ -7,7 +7,7 @@ use Rattle.irig_codes.specs.{Format.FormatView, Width.is_in_step}
 use Rattle.irig_recording.specs.declared.pulse.Pulse.{Pulse}
 use Rattle.irig_times.specs.Steps.{micros_between}
 use Rattle.irig_law.specs.declared.point.Point.{Point}
-use Rattle.irig_timed.proofs.Lists.{at-end, at-front, one-longer}
+use Rattle.irig_law.proofs.Each.{at-end, at-front, one-longer}
 use Rattle.irig_timed.specs.{Elements.GoesOn, Elements.IsWith, Elements.longer, Runs.AreRunsTo, Runs.IsIn, Runs.IsRun}
 use Rattle.irig_timed.specs.declared.run.Run.{Run}
 use Rattle.irig_timed.proofs.RunPlaces.{in-low, nth-in}

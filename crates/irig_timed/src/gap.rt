@@ -9,11 +9,10 @@ ghost use Rattle.irig_timed.specs.Stretches.{AreFramesOf, stretch_at};
 
 use crate::apart::elements_after;
 use crate::clean::is_free;
-use crate::clocks::{clock_of, micros_between};
 use crate::run::Place;
 use crate::stretch::stretch_at;
 use irig_codes::{Format, in_step};
-use irig_law::{Clock, Frame};
+use irig_law::{Clock, Frame, clock_between, micros_between};
 use irig_times::Why;
 use irig_track::Lens;
 
@@ -137,7 +136,7 @@ fn gap_over(
 {
     match stretch {
         Some(stretch) => {
-            let clock = clock_of(pulses, format, &stretch.0, &stretch.1);
+            let clock = clock_between(pulses, format, &stretch.0, &stretch.1);
             gap_in(free, &clock, long, elements)
         }
         None => Gap::Untimed(Why::Hole),

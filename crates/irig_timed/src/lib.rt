@@ -4,7 +4,6 @@
 mod apart;
 mod around;
 mod clean;
-mod clocks;
 mod gap;
 mod held;
 mod known;

@@ -8,10 +8,9 @@ ghost use Rattle.irig_recording.specs.declared.pulse.Pulse.{Pulse};
 ghost use Rattle.irig_timed.specs.Elements.{GoesOn, IsNext, IsWith, kept, longer};
 ghost use Rattle.irig_timed.specs.Runs.{AreRunsTo, IsIn, RunsBy};
 
-use crate::clocks::micros_between;
 use crate::line::is_in_hour;
 use irig_codes::{Format, in_step};
-use irig_law::Point;
+use irig_law::{Point, micros_between};
 use irig_times::Time;
 use irig_track::Lens;
 use std::alloc::{AllocError, Global};

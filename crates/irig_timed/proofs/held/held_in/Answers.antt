@@ -1,7 +1,7 @@
 use Rattle.std.proofs.Common.{◌+◌, ◌++◌, ◌∷◌, [], Bool, List, drop, slice_get, arith, ap, sym, ◌∙◌}
 use Rattle.irig_timed.specs.Held.{held_in}
 use Rattle.irig_timed.proofs.HeldLists.{held-next, held-same}
-use Rattle.irig_timed.proofs.Lists.{one-longer}
+use Rattle.irig_law.proofs.Each.{one-longer}
 use Rattle.irig_timed.proofs.held.held_in.Goals as goal
 use Rattle.irig_timed.proofs.held.held_in.Goals.{then-held, else-held}
 

@@ -1,6 +1,6 @@
 use Rattle.std.proofs.Common.{◌≡◌, ℕ, arith, ap, ◌∙◌}
 use Rattle.irig_timed.specs.{Reasons.gap_with, Runs.place_at, Runs.place_before, declared.gap.Gap.Gap}
-use Rattle.irig_timed.proofs.Lists.{each-more, one-longer}
+use Rattle.irig_law.proofs.Each.{each-more, one-longer}
 use Rattle.irig_timed.proofs.known.gaps_of.Goals as goal
 
 pub loop-place-preserved : goal.loop-place-preserved
