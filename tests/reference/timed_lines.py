@@ -4,6 +4,7 @@ import re
 from fractions import Fraction
 from typing import NamedTuple, Optional
 
+from reference import timecode
 from reference.law import Law
 from reference.times import follows, is_leap
 
@@ -13,6 +14,9 @@ LONGEST_LINE = 2**20
 YEAR_END = 300  # days by which the day of the year goes back at least if a year ends
 NUMBER = re.compile(rb"[ \t\r]*([+-]?[0-9]+(?:\.[0-9]+)?)(?:[eE]([+-]?[0-9]+))?[ \t\r]*")
 COLUMNS = 65536  # that a number can name
+UNITS_OF_INTERVAL = 10**12  # in which a bound over a hole is counted
+ROUNDED = 2  # microseconds: one in which a rise is recorded, and one that is printed
+BOUND_NAME = b"bound_us"
 FARTHEST = 4000  # an exponent that is greater says no more, as long as a column has fewer digits
 
 
@@ -29,6 +33,8 @@ class Options(NamedTuple):
     alone: bool = False
     name: bytes = b"time"
     why: bool = False
+    bound: bool = False
+    within: Optional[int] = None  # microseconds
 
 
 class Track:
@@ -44,6 +50,37 @@ class Track:
         """The time some microseconds, a fraction, after the start; None if there is none."""
         found = self.law.time_at(moment)
         return found and found.time._replace(micros=int(found.time.micros))
+
+    def off(self, moment):
+        """By how many microseconds the time of a moment can be off: over a hole, and by how much the steps at a pulse differ, in the
+        believed frames around it and at the two pulses that it is between."""
+        one, other = self.law.around(moment)
+        first = max([frame.marker for frame in self.frames if frame.marker <= one], default=None)
+        second = min([frame.marker for frame in self.frames if frame.marker > one], default=None)
+        places = [marker + element for marker in (first, second) if marker is not None for element in range(1, 99)]
+        return self.across(one, other) + max(self.bend(place) for place in (one, other, *places)) + ROUNDED
+
+    def bend(self, place):
+        """By how much the two steps at a pulse differ, if both are one interval."""
+        rises = self.law.rises
+        if not 0 < place < len(rises) - 1:
+            return 0
+        before, after = rises[place] - rises[place - 1], rises[place + 1] - rises[place]
+        even = timecode.in_step(self.law.interval, before) and timecode.in_step(self.law.interval, after)
+        return abs(before - after) if even else 0
+
+    def across(self, one, other):
+        """By how many microseconds, rounded up, the line between two pulses can be off."""
+        law, long = self.law, self.law.rises[other] - self.law.rises[one]
+        many = law.elements_between(one, other)
+        if law.bound(one, other, many) == 0:
+            return 0
+        before = [frame for frame in self.frames if frame.marker <= one][-1]
+        after = [frame for frame in self.frames if frame.marker > one][0]
+        span, slack, units = law.span(before), law.slack(before, after), many * UNITS_OF_INTERVAL
+        least, most = 99 * UNITS_OF_INTERVAL // (span + slack), 99 * UNITS_OF_INTERVAL // (span - slack) + 1
+        bound = max(most * long - units, units - least * long) + 1
+        return -(-bound * law.interval // UNITS_OF_INTERVAL)
 
     def why(self, moment):
         """Why a moment has no time: a frame that is not believed is between the pulses with a time around it, or what these show."""
@@ -86,6 +123,17 @@ def word(options, track, time):
     if time.days > 365 + is_leap(year):
         return "-"
     return (datetime.date(year, 1, 1) + datetime.timedelta(days=time.days - 1)).isoformat() + clock
+
+
+def stamp(options, track, moment):
+    """The words before a line with a moment: its time, or why it has none; and how far that can be off."""
+    time = track.time_at(moment)
+    if time is None:
+        return (track.why(moment) if options.why else "-"), "-"
+    off = track.off(moment)
+    if options.within is not None and options.within < off:
+        return ("wide" if options.why else "-"), "-"
+    return word(options, track, time), str(off)
 
 
 def number(options, line):
@@ -173,14 +221,11 @@ def aligned(options, pulses, length, text):
     for place, line in enumerate(lines):
         if len(line) > LONGEST_LINE:
             return b"".join(printed), 4
-        if place < options.header:  # the last line of the header has the names of the columns
-            cell = options.name if place == options.header - 1 else b"-"
-            printed.append(cell + (options.comma or b"\t") + line + b"\n")
-            continue
+        last = place == options.header - 1  # of the header: it has the names of the columns
+        words = (options.name, BOUND_NAME) if last else (b"-", b"-")
         moment = number(options, line)
-        time = None if moment is None else track.time_at(moment - options.offset)
-        status = status or int(moment is None)
-        asked = options.why and moment is not None and time is None
-        shown = track.why(moment - options.offset) if asked else word(options, track, time)
-        printed.append(shown.encode() + (options.comma or b"\t") + line + b"\n")
+        if place >= options.header and moment is not None:
+            words = [each.encode() for each in stamp(options, track, moment - options.offset)]
+        status = status or int(place >= options.header and moment is None)
+        printed.append((options.comma or b"\t").join([*words[:1 + options.bound], line]) + b"\n")
     return b"".join(printed), status

@@ -10,7 +10,7 @@ use Rattle.irig_track.specs.Looks.{counted}
 use Rattle.irig_stamps.specs.Looks.{header_look, line_look, look_at, looks}
 use Rattle.irig_stamps.specs.{HeaderUnits.names_other_unit}
 use Rattle.irig_stamps.specs.Stamped.{AreOut, Stamped, is_plain, unlines}
-use Rattle.irig_stamps.specs.{Stamps.IsOut, Stamps.header_word, Stamps.is_header, Tallies.IsTally}
+use Rattle.irig_stamps.specs.{Offs.header_cell, Stamps.IsOut, Stamps.header_name, Stamps.header_word, Stamps.is_header, Tallies.IsTally}
 use Rattle.irig_stamps.specs.declared.{settings.Settings.Settings, look.Look.Look, tally.Tally.Tally}
 
 pub plain-append : (xs ys : List ℕ) → is_plain xs ≡ true → is_plain ys ≡ true → is_plain (xs ++ ys) ≡ true
@@ -75,7 +75,7 @@ module _ (f : FormatView) (ps : List Pulse) (s : Settings) where
 
   -- after the header there is no word of it
   no-word : (n : ℕ) → is_header s n ≡ false → header_word s n ≡ None
-  no-word n h = ap (λ (b : Bool). if b then Some (if n + 1 == s.header then s.name.now else 45 ∷ []) else None) h
+  no-word n h = ap (λ (b : Bool). if b then Some (header_name s n ++ header_cell s n) else None) h
 
   word-counted : (n count : ℕ) → s.header < 2 ^ 64 → count ≡ min n (2 ^ 64 - 1) → header_word s count ≡ header_word s n
   word-counted n count small is = elim (cases_lt n (2 ^ 64 - 1)) [

@@ -1,5 +1,5 @@
 -- The word of a recorder's time.
-use Rattle.std.proofs.Common.{◌≡◌, ◌↔◌, ℕ, Bool, true, false, ◌+◌, ◌-◌, ◌/◌, ◌^◌, ◌<◌, ◌≤◌, List, [], ◌∷◌, Option, Some, None, min, refl, sym, ap, ◌∙◌, inl, inr, subst, arith}
+use Rattle.std.proofs.Common.{◌≡◌, ◌↔◌, ℕ, Bool, true, false, ◌+◌, ◌-◌, ◌/◌, ◌^◌, ◌<◌, ◌≤◌, ◌++◌, List, [], ◌∷◌, Option, Some, None, min, refl, sym, ap, ◌∙◌, inl, inr, subst, arith}
 use Rattle.std.proofs.lemmas.{Bool.cases_lt, Option.none-some, Option.same_Some}
 use Rattle.std.specs.Prelude.{option_map, if◌then◌else◌}
 use Rattle.irig_codes.specs.Format.{FormatView}
@@ -8,55 +8,52 @@ use Rattle.irig_track.specs.Track.{IsLongTrack}
 use Rattle.irig_track.specs.Splices.{risen_by}
 use Rattle.irig_times.specs.declared.why.Why.TheVariants.{Before}
 use Rattle.irig_times.specs.{declared.time.Time.Time, declared.why.Why.Why}
-use Rattle.irig_timed.specs.{Moments.IsMoment, Moments.IsTimed, Reasons.IsWhy, declared.moment.Moment.Moment}
-use Rattle.irig_stamps.specs.{Numbers.capped, Reasons.why_text, Stamps.IsNone, Stamps.IsTimeOf, Stamps.IsWhyOf, Stamps.IsWord, Stamps.added, Stamps.taken, Texts.word_of}
+use Rattle.irig_timed.specs.{Moments.IsMomentOf, Moments.IsTimed, Reasons.IsWhy, declared.moment.Moment.Moment}
+use Rattle.irig_stamps.specs.{Numbers.capped, Reasons.why_text, Stamps.IsNone, Stamps.IsTimeOf, Stamps.IsWhyOf, Stamps.IsWord, Stamps.added, Stamps.taken}
+use Rattle.irig_stamps.specs.Offs.{cell, timed_word}
 use Rattle.irig_stamps.specs.{declared.picos.Picos.Picos, declared.settings.Settings.Settings}
 use Rattle.irig_stamps.proofs.Late.{all-risen, none-late}
 
--- a time and its bound
-abbrev moment : Time → ℕ → Moment
-moment t b = record { time = t; bound = b }
+-- a time is that of a moment between two pulses
+pub timed-moment : (f : FormatView) (alone : Bool) (century : ℕ) (ps : List Pulse) (d n : ℕ) (x : Time) → IsTimed f alone century ps d n x
+    → (y : Moment) × IsMomentOf f alone century ps d n y
+timed-moment f alone century ps d n x (bound, h) =
+    (record { time = x; bound = bound; from = h.from.number; to = h.to.number }, (h, refl, refl))
 
--- the time of a moment without its bound
 module _ (f : FormatView) (alone : Bool) (century : ℕ) (ps : List Pulse) (d n : ℕ) (result : Option Moment)
-    (exact : (t : Time) (b : ℕ) → (result ≡ Some (moment t b)) ↔ IsMoment f alone century ps d n t b) where
-  pub timed-some : (m : Moment) → result ≡ Some m → (x : Time) → (Some m.time ≡ Some x) ↔ IsTimed f alone century ps d n x
-  timed-some m is x = (
-    λ e. (m.bound, (exact x m.bound).0 (is ∙ ap (λ (t : Time). Some (moment t m.bound)) (same_Some m.time x e))),
-    λ h. ap (λ (o : Option Moment). option_map (λ (k : Moment). k.time) o) (sym is ∙ (exact x h.0).1 h.1),
-  )
-
-  pub timed-none : result ≡ None → (x : Time) → (None ≡ Some x) ↔ IsTimed f alone century ps d n x
-  timed-none is x = (λ e. absurd (none-some x e), λ h. absurd (none-some (moment x h.0) (sym is ∙ (exact x h.0).1 h.1)))
+    (exact : (x : Moment) → (result ≡ Some x) ↔ IsMomentOf f alone century ps d n x) where
+  pub timed-none : result ≡ None → (x : Time) → IsTimed f alone century ps d n x → ⊥
+  timed-none is x h = (let m = timed-moment f alone century ps d n x h in none-some m.0 (sym is ∙ (exact m.0).1 m.1))
 
 pub timed-there : (f : FormatView) (alone : Bool) (century : ℕ) (ps : List Pulse) (d n : ℕ) (result : Option Moment)
-    → ((t : Time) (b : ℕ) → (result ≡ Some (moment t b)) ↔ IsMoment f alone century ps d n t b) → (result ≡ None → ⊥)
+    → ((x : Moment) → (result ≡ Some x) ↔ IsMomentOf f alone century ps d n x) → (result ≡ None → ⊥)
     → (x : Time) × IsTimed f alone century ps d n x
 timed-there f alone century ps d n None exact some = absurd (some refl)
-timed-there f alone century ps d n (Some m) exact some = (m.time, (m.bound, (exact m.time m.bound).0 refl))
+timed-there f alone century ps d n (Some m) exact some = (m.time, (m.bound, ((exact m).0 refl).0))
 
 module _ (f : FormatView) (ps : List Pulse) (s : Settings) where
-  -- the word of a time that was found
-  pub word-time : (picos : Picos) (y : Time) (result : Option Time) → result ≡ Some y
-      → ((v : Picos) → picos ≡ capped v → (x : Time) → (result ≡ Some x) ↔ IsTimeOf f ps s v x)
-      → (number : Option Picos) → Some picos ≡ option_map capped number → IsWord f ps s number (word_of s (Some y))
-  word-time picos y result is h None e = absurd (none-some picos (sym e))
-  word-time picos y result is h (Some v) e =
+  -- the words of a moment that was found
+  pub word-time : (picos : Picos) (y : Moment) (word : List ℕ) (result : Option Moment) → result ≡ Some y
+      → ((v : Picos) → picos ≡ capped v → (x : Moment) → (result ≡ Some x) ↔ IsTimeOf f ps s v x)
+      → word ≡ timed_word f ps s y
+      → (number : Option Picos) → Some picos ≡ option_map capped number → IsWord f ps s number word
+  word-time picos y word result is h text None e = absurd (none-some picos (sym e))
+  word-time picos y word result is h text (Some v) e =
       let k = h v (same_Some picos (capped v) e) in
-      (λ x t. ap (word_of s) (sym is ∙ (k x).1 t), λ none. absurd (none y ((k y).0 is)))
+      (λ x t. text ∙ ap (timed_word f ps s) (same_Some y x (sym is ∙ (k x).1 t)), λ none. absurd (none y ((k y).0 is)))
 
   -- the word of no time
-  pub word-untimed : (picos : Picos) (word : List ℕ) (result : Option Time) → result ≡ None
-      → ((v : Picos) → picos ≡ capped v → (x : Time) → (result ≡ Some x) ↔ IsTimeOf f ps s v x)
+  pub word-untimed : (picos : Picos) (word : List ℕ) (result : Option Moment) → result ≡ None
+      → ((v : Picos) → picos ≡ capped v → (x : Moment) → (result ≡ Some x) ↔ IsTimeOf f ps s v x)
       → ((v : Picos) → picos ≡ capped v → IsNone s.why f ps s v word)
-      → (number : Option Picos) → Some picos ≡ option_map capped number → IsWord f ps s number word
+      → (number : Option Picos) → Some picos ≡ option_map capped number → IsWord f ps s number (word ++ cell s (45 ∷ []))
   word-untimed picos word result is h why None e = absurd (none-some picos (sym e))
   word-untimed picos word result is h why (Some v) e =
       let same = same_Some picos (capped v) e in
       let k = h v same in
-      (λ x t. absurd (none-some x (sym is ∙ (k x).1 t)), λ none. why v same)
+      (λ x t. absurd (none-some x (sym is ∙ (k x).1 t)), λ none. (word, why v same, refl))
 
-  pub word-none : (number : Option Picos) → None ≡ option_map capped number → IsWord f ps s number (45 ∷ [])
+  pub word-none : (number : Option Picos) → None ≡ option_map capped number → IsWord f ps s number (45 ∷ [] ++ cell s (45 ∷ []))
   word-none None e = refl
   word-none (Some v) e = absurd (none-some (capped v) e)
 
@@ -109,31 +106,31 @@ module _ (f : FormatView) (ps : List Pulse) (s : Settings) where
 
   -- before the start of the track there is no time
   pub time-before : (picos : Picos) (add take : ℕ) → s.offset ≤ 2 ^ 119 → Spans picos add take → add < take
-      → (v : Picos) → picos ≡ capped v → (x : Time) → (None ≡ Some x) ↔ IsTimeOf f ps s v x
+      → (v : Picos) → picos ≡ capped v → (x : Moment) → (None ≡ Some x) ↔ IsTimeOf f ps s v x
   time-before picos add take small h lt v e x =
       let k = spans-capped picos v add take e h in
       (λ is. absurd (none-some x is), λ is. absurd (before-before s.early v.negative v.size s.offset add take small k.0 k.1 lt is.0))
 
   -- a time that is too late has none
   pub time-late : (micros : ℕ) (picos : Picos) (add take : ℕ) → IsLongTrack micros ps → s.offset ≤ 2 ^ 119 → Spans picos add take → 2 ^ 62 ≤ add - take
-      → (v : Picos) → picos ≡ capped v → (x : Time) → (None ≡ Some x) ↔ IsTimeOf f ps s v x
+      → (v : Picos) → picos ≡ capped v → (x : Moment) → (None ≡ Some x) ↔ IsTimeOf f ps s v x
   time-late micros picos add take track small h late v e x =
       let k = spans-capped picos v add take e h in (
         λ is. absurd (none-some x is),
         λ is. absurd (late-late s.early v.negative v.size s.offset add take small k.0 k.1 late
-            (none-late f s.alone s.century micros ps track (added s v - taken s v) x is.1)),
+            (none-late f s.alone s.century micros ps track (added s v - taken s v) x.time (x.bound, is.1.0))),
       )
 
   -- each greatest number has no time, so it stands for all that are further from zero
-  pub time-exact : (picos : Picos) (add take : ℕ) (result : Option Time) → s.offset ≤ 2 ^ 119 → Spans picos add take → take ≤ add → add - take < 2 ^ 62
-      → ((x : Time) → (result ≡ Some x) ↔ IsTimed f s.alone s.century ps 1000000 (add - take) x)
-      → (v : Picos) → picos ≡ capped v → (x : Time) → (result ≡ Some x) ↔ IsTimeOf f ps s v x
+  pub time-exact : (picos : Picos) (add take : ℕ) (result : Option Moment) → s.offset ≤ 2 ^ 119 → Spans picos add take → take ≤ add → add - take < 2 ^ 62
+      → ((x : Moment) → (result ≡ Some x) ↔ IsMomentOf f s.alone s.century ps 1000000 (add - take) x)
+      → (v : Picos) → picos ≡ capped v → (x : Moment) → (result ≡ Some x) ↔ IsTimeOf f ps s v x
   time-exact picos add take result small h le near is v e x =
       let k = spans-capped picos v add take e h in
       let same = near-same s.early v.negative v.size s.offset add take small k.0 k.1 le near in
       let span : add - take ≡ added s v - taken s v = omega (arith, same.0, same.1) in (
-        λ r. (omega (arith, same.0, same.1, le), subst (λ n. IsTimed f s.alone s.century ps 1000000 n x) span ((is x).0 r)),
-        λ t. (is x).1 (subst (λ n. IsTimed f s.alone s.century ps 1000000 n x) (sym span) t.1),
+        λ r. (omega (arith, same.0, same.1, le), subst (λ n. IsMomentOf f s.alone s.century ps 1000000 n x) span ((is x).0 r)),
+        λ t. (is x).1 (subst (λ n. IsMomentOf f s.alone s.century ps 1000000 n x) (sym span) t.1),
       )
 
   -- the reason before the start of the track

@@ -8,6 +8,7 @@ pub mod HeaderUnits
 pub mod Looks
 pub mod Named
 pub mod Numbers
+pub mod Offs
 pub mod Points
 pub mod Printed
 pub mod Reasons

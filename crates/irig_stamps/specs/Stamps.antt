@@ -5,12 +5,12 @@ use Rattle.std.specs.Prelude.{if◌then◌else◌}
 use Rattle.irig_codes.specs.Format.{FormatView}
 use Rattle.irig_recording.specs.declared.pulse.Pulse.{Pulse}
 use Rattle.irig_track.specs.Splices.{risen_by}
-use Rattle.irig_times.specs.{declared.time.Time.Time, declared.why.Why.Why}
+use Rattle.irig_times.specs.declared.why.Why.{Why}
 use Rattle.irig_times.specs.declared.why.Why.TheVariants.{Before}
-use Rattle.irig_timed.specs.{Moments.IsTimed, Reasons.IsWhy}
-use Rattle.irig_stamps.specs.Reasons.{why_text}
+use Rattle.irig_timed.specs.{Moments.IsMomentOf, Reasons.IsWhy, declared.moment.Moment.Moment}
+use Rattle.irig_stamps.specs.{Offs.cell, Offs.header_cell, Offs.timed_word, Reasons.why_text}
 use Rattle.irig_stamps.specs.{declared.picos.Picos.Picos, declared.settings.Settings.Settings}
-use Rattle.irig_stamps.specs.{Columns.column_of, Numbers.number_in, Texts.word_of}
+use Rattle.irig_stamps.specs.{Columns.column_of, Numbers.number_in}
 
 -- the recorder's time in a line, in picoseconds, if it is a number; the offset is not yet taken off
 abbrev pub picos_in : Settings → List ℕ → Option Picos
@@ -24,11 +24,12 @@ added s v = (if v.negative then 0 else v.size) + (if s.early then s.offset else 
 abbrev pub taken : Settings → Picos → ℕ
 taken s v = (if v.negative then v.size else 0) + (if s.early then 0 else s.offset)
 
--- the time of year at the recorder's time v, by the law of time
-abbrev pub IsTimeOf : FormatView → List Pulse → Settings → Picos → Time → Type 0
+-- the moment of the recorder's time v, by the law of time: its time of year, and how far that can
+-- be off
+abbrev pub IsTimeOf : FormatView → List Pulse → Settings → Picos → Moment → Type 0
 IsTimeOf f ps s v x =
     (taken s v ≤ added s v)
-    × IsTimed f s.alone s.century ps 1000000 (added s v - taken s v) x
+    × IsMomentOf f s.alone s.century ps 1000000 (added s v - taken s v) x
 
 -- why there is no time of year at the recorder's time v: it is before the start of the track, or by
 -- the pulses around it
@@ -43,13 +44,14 @@ abbrev pub IsNone : Bool → FormatView → List Pulse → Settings → Picos �
 IsNone false f ps s v word = word ≡ 45 ∷ []
 IsNone true f ps s v word = (why : Why) × IsWhyOf f ps s v why × (word ≡ why_text why)
 
--- the word before a line: its time of year, or that of no time; a hyphen if its column has no
--- number
+-- the words before a line: those of its moment, or that of no time; a hyphen if its column has no
+-- number. There can be a second one, how far the time can be off: a hyphen if there is none
 abbrev pub IsWord : FormatView → List Pulse → Settings → Option Picos → List ℕ → Type 0
-IsWord f ps s None word = word ≡ 45 ∷ []
+IsWord f ps s None word = word ≡ 45 ∷ [] ++ cell s (45 ∷ [])
 IsWord f ps s (Some v) word =
-    ((x : Time) → IsTimeOf f ps s v x → word ≡ word_of s (Some x))
-    × (((x : Time) → IsTimeOf f ps s v x → ⊥) → IsNone s.why f ps s v word)
+    ((x : Moment) → IsTimeOf f ps s v x → word ≡ timed_word f ps s x)
+    × (((x : Moment) → IsTimeOf f ps s v x → ⊥)
+    → (none : List ℕ) × IsNone s.why f ps s v none × (word ≡ none ++ cell s (45 ∷ [])))
 
 -- what comes out for a line of no header: its word, the separator, and the line as it was
 pub record IsStamped (f : FormatView) (ps : List Pulse) (s : Settings) (line out : List ℕ)
@@ -62,11 +64,14 @@ pub record IsStamped (f : FormatView) (ps : List Pulse) (s : Settings) (line out
 abbrev pub is_header : Settings → ℕ → Bool
 is_header s n = nat_lt n s.header
 
--- the word before such a line, if it is one of the header: the name of the column of times in the
--- last one, else a hyphen
+-- the words before such a line, if it is one of the header: the names of the new columns in the
+-- last one, else hyphens
+abbrev pub header_name : Settings → ℕ → List ℕ
+header_name s n = if n + 1 == s.header then s.name.now else 45 ∷ []
+
 abbrev pub header_word : Settings → ℕ → Option (List ℕ)
 header_word s n =
-    if is_header s n then Some (if n + 1 == s.header then s.name.now else 45 ∷ []) else None
+    if is_header s n then Some (header_name s n ++ header_cell s n) else None
 
 -- what comes out for a line: its word, the separator, and the line as it was
 abbrev pub IsOut : FormatView → List Pulse → Settings → Option (List ℕ) → List ℕ → List ℕ → Type 0

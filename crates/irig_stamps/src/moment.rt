@@ -1,7 +1,8 @@
-//! The time of year at a recorder's time, or why it has none.
+//! The moment of a recorder's time, or why that has no time of year.
 
-ghost use Rattle.std.specs.Prelude.{◌≡◌, ◌↔◌, ◌<◌, ◌≤◌, ◌^◌, ◌-◌, Option, Some, min, option_map};
-ghost use Rattle.irig_times.specs.declared.time.Time.{Time};
+ghost use Rattle.std.specs.Prelude.{◌≡◌, ◌↔◌, ◌<◌, ◌≤◌, ◌^◌, ◌-◌, Option, Some, IfSome, min};
+ghost use Rattle.std.specs.Prelude.{option_map};
+ghost use Rattle.irig_timed.specs.declared.moment.Moment.{Moment};
 ghost use Rattle.irig_stamps.specs.{Looks.moment_of, Reasons.IsKnownOf};
 ghost use Rattle.irig_stamps.specs.Stamps.{IsTimeOf, IsWhyOf, added, taken};
 ghost use Rattle.irig_stamps.specs.{Numbers.capped, declared.picos.Picos.Picos};
@@ -9,8 +10,8 @@ ghost use Rattle.irig_stamps.specs.{Numbers.capped, declared.picos.Picos.Picos};
 use crate::picos::Picos;
 use crate::settings::Settings;
 use irig_codes::Format;
-use irig_timed::{Known, time_at, why_at};
-use irig_times::{Time, Why};
+use irig_timed::{Known, Moment, time_at, why_at};
+use irig_times::Why;
 use irig_track::Lens;
 
 /// A moment so late, in picoseconds after the start of a track, has no time: 2^62.
@@ -59,20 +60,22 @@ pub fn moment_of(settings: &Settings<'_>, number: Option<Picos>) -> Option<u128>
     }
 }
 
-/// The time of year at a recorder's time; `None` if its moment has none, is before the track
-/// starts, or is later than any track is long (`LATE`).
+/// The moment of a recorder's time, with its time of year; `None` if it has none, is before the
+/// track starts, or is later than any track is long (`LATE`).
 pub fn time_of(
     pulses: &mut Lens<'_>,
     known: &Known,
     format: Format,
     settings: &Settings<'_>,
     picos: Picos,
-) -> Option<Time>
+) -> Option<Moment>
     requires known { IsKnownOf format settings.now pulses.old.track.pulses known.now }
     requires century { settings.now.century ≤ 99 }
     requires offset { settings.now.offset ≤ 2 ^ 119 }
-    ensures exact { (v : Picos) → picos ≡ capped v → (x : Time) → (result ≡ Some x)
+    ensures exact { (v : Picos) → picos ≡ capped v → (x : Moment) → (result ≡ Some x)
         ↔ IsTimeOf format pulses.old.track.pulses settings.now v x }
+    ensures low { IfSome result (λ x.
+        (x.from < 2 ^ 27) × (x.to < 2 ^ 27) × (x.bound ≤ 20000000000)) }
     ensures pulses { pulses.new.track ≡ pulses.old.track }
 {
     // The count is not used: the call's contract bounds the track, and the proof needs that.
@@ -85,10 +88,7 @@ pub fn time_of(
     if since >= LATE {
         return None;
     }
-    match time_at(pulses, known, format, settings.century, since as u64) {
-        Some(moment) => Some(moment.time),
-        None => None,
-    }
+    time_at(pulses, known, format, settings.century, since as u64)
 }
 
 /// Why a recorder's time has no time of year: `Before` if it is before the track starts, else what

@@ -43,6 +43,10 @@ pub struct Settings<'a> {
     pub alone: bool,
     /// Whether a word says why a line has no time.
     pub why: bool,
+    /// Whether a column says how far each time can be off.
+    pub bound: bool,
+    /// By how many microseconds a time can be off that is printed.
+    pub within: Option<u64>,
     /// How a time is written.
     pub form: Form,
 }

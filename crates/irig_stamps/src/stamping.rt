@@ -1,9 +1,10 @@
 //! What comes out for a line: the line as it was, with its stamp before it.
 
-ghost use Rattle.std.specs.Prelude.{◌≡◌, ◌<◌, ◌≤◌, ◌^◌, ◌++◌, ◌∷◌, [], ℕ, List, Some};
+ghost use Rattle.std.specs.Prelude.{◌≡◌, ◌<◌, ◌≤◌, ◌^◌, ◌++◌, ◌∷◌, [], ℕ, List};
 ghost use Rattle.std.specs.Prelude.{IfOk, IfSome, OnOk, unwrap_or};
 ghost use Rattle.irig_stamps.specs.Looks.{begins, header_look, line_look, look_at};
-ghost use Rattle.irig_stamps.specs.Stamps.{IsOut, IsStamped, header_word};
+ghost use Rattle.irig_stamps.specs.Stamps.{IsOut, IsStamped, header_name, header_word};
+ghost use Rattle.irig_stamps.specs.Offs.{header_cell};
 ghost use Rattle.irig_stamps.specs.Reasons.{IsKnownOf};
 
 use crate::columns::{column, width};
@@ -13,7 +14,7 @@ use crate::look::Look;
 use crate::moment::moment_of;
 use crate::numbers::number;
 use crate::settings::Settings;
-use crate::stamp::{put_stamp, stamp_of};
+use crate::stamp::{put_cell, put_stamp, stamp_of};
 use irig_codes::Format;
 use irig_timed::Known;
 use irig_track::Lens;
@@ -41,7 +42,7 @@ pub fn put_line_out(
     ensures pulses { pulses.new.track ≡ pulses.old.track }
 {
     if count < settings.header {
-        text.extend_from_slice(header_word(settings, count))?;
+        put_header(text, settings, count)?;
         put_separated(text, settings.comma, line)?;
         return Ok(header_look(settings, count, line));
     }
@@ -65,17 +66,20 @@ fn header_look(settings: &Settings<'_>, count: u64, line: &[u8]) -> Look
     }
 }
 
-/// The word before a line of the header: before its last line the name of the new column of times
-/// (`settings.name`), before each other one a hyphen.
-fn header_word<'a>(settings: &Settings<'a>, count: u64) -> &'a [u8]
+/// Adds the words before a line of the header: before its last line the name of the new column of
+/// times (`settings.name`) and that of the bounds, before each other one hyphens.
+fn put_header(text: &mut Vec<u8>, settings: &Settings<'_>, count: u64) -> Result<(), AllocError>
     requires { count < settings.now.header }
-    ensures { header_word settings.now count ≡ Some result.now }
+    ensures { OnOk result (text.new.items ≡ text.old.items
+        ++ (header_name settings.now count ++ header_cell settings.now count)) }
 {
     let header = settings.header;
     if count + 1 == header {
-        settings.name
+        text.extend_from_slice(settings.name)?;
+        put_cell(text, settings, b"bound_us")
     } else {
-        b"-"
+        text.extend_from_slice(b"-")?;
+        put_cell(text, settings, b"-")
     }
 }
 

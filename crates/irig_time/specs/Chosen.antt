@@ -5,10 +5,10 @@ use Rattle.irig_codes.specs.Format.{FormatView}
 use Rattle.irig_stamps.specs.declared.settings.Form.TheVariants.{Ordinal, Calendar, Seconds}
 use Rattle.irig_stamps.specs.{declared.picos.Picos.Picos, declared.settings.Form.Form}
 use Rattle.irig_stamps.specs.declared.settings.Settings.{Settings}
-use Rattle.irig_time.specs.Samples.{HasColumns, HasDates, HasName}
+use Rattle.irig_time.specs.Samples.{HasColumns, HasDates, HasName, HasWithin}
 use Rattle.irig_time.specs.Values.{whole_between}
 use Rattle.irig_time.specs.Wants.{has_line_option, is_json_alone, is_not_of_holes, task_of}
-use Rattle.irig_time.specs.Wants.{wants_alone, wants_quiet, wants_table, wants_why}
+use Rattle.irig_time.specs.Wants.{wants_alone, wants_bound, wants_quiet, wants_table, wants_why}
 use Rattle.irig_words.specs.Formats.{IsFormat, given, text_or}
 use Rattle.irig_words.specs.Windows.{IsWindow}
 use Rattle.irig_time.specs.declared.samples.Column.{Column}
@@ -31,6 +31,8 @@ pub record HasSettings (a : RawValues) (s : Settings) : Type 0 where
   pub dates : HasDates a s.century s.year s.form
   pub alone : s.alone ≡ wants_alone a
   pub why : s.why ≡ wants_why a
+  pub bound : s.bound ≡ wants_bound a
+  pub within : HasWithin a s.within
 
 -- the values are within their limits
 abbrev pub IsSound : Settings → Type 0

@@ -33,6 +33,7 @@ HasFault a fault.Name = (comma : Option ℕ) × IsComma a comma
 HasFault a fault.Unnamed = (is_some a.name ≡ true)
     × (whole_between 0 4294967296 (text_or a.header (codes "0")) ≡ Some 0)
 HasFault a fault.Year = whole_between 1000 9998 (text_or a.year (codes "")) ≡ None
+HasFault a fault.Within = whole_between 0 4294967296 (text_or a.within (codes "")) ≡ None
 HasFault a fault.Form = form_named (text_or a.form (codes "ordinal")) ≡ None
 HasFault a fault.NoYear =
     (f : FormatView) × (s : Settings) × IsFormat (given a.format) (given a.expression) f

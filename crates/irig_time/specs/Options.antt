@@ -27,9 +27,11 @@ output_command =
     with_rule (with_rule (with_rule (with_rule column_command (option (codes "header") None))
     (option (codes "name") None)) (option (codes "year") None)) (option (codes "form") None)
 
--- and which frames are taken, and what is printed of lines without a time
+-- and which frames are taken, and what is printed of lines without a time, and of bounds
 abbrev pub flags_command : App
-flags_command = with_rule (with_rule output_command (flag (codes "alone"))) (flag (codes "why"))
+flags_command =
+    with_rule (with_rule (with_rule (with_rule output_command (flag (codes "alone")))
+    (flag (codes "why"))) (flag (codes "bound"))) (option (codes "within") None)
 
 -- and what of the track is listed
 abbrev pub list_command : App

@@ -58,3 +58,8 @@ pub record HasName (a : RawValues) (comma : Option ℕ) (header : ℕ) (name : L
   pub name_is : name ≡ text_or a.name (codes "time")
   pub sound : is_name comma name ≡ true
   pub needed : (is_some a.name && (header == 0)) ≡ false
+
+-- by how many microseconds a time can be off that is printed, if that is given
+abbrev pub HasWithin : RawValues → Option ℕ → Type 0
+HasWithin a None = a.within ≡ None
+HasWithin a (Some n) = whole_between 0 4294967296 (text_or a.within (codes "")) ≡ Some n

@@ -27,6 +27,8 @@ pub record AreValues (f : Found) (a : RawValues) : Type 0 where
   pub out : first_value f (codes "out") ≡ option_map (λ w. w.now) a.out
   pub alone : first_value f (codes "alone") ≡ option_map (λ w. w.now) a.alone
   pub why : first_value f (codes "why") ≡ option_map (λ w. w.now) a.why
+  pub bound : first_value f (codes "bound") ≡ option_map (λ w. w.now) a.bound
+  pub within : first_value f (codes "within") ≡ option_map (λ w. w.now) a.within
   pub table : first_value f (codes "table") ≡ option_map (λ w. w.now) a.table
   pub holes : first_value f (codes "holes") ≡ option_map (λ w. w.now) a.holes
   pub json : first_value f (codes "json") ≡ option_map (λ w. w.now) a.json

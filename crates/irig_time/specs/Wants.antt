@@ -13,6 +13,10 @@ wants_alone a = bytes_eq (text_or a.alone (codes "false")) (codes "true")
 abbrev pub wants_why : RawValues → Bool
 wants_why a = bytes_eq (text_or a.why (codes "false")) (codes "true")
 
+-- whether a column says how far each time can be off
+abbrev pub wants_bound : RawValues → Bool
+wants_bound a = bytes_eq (text_or a.bound (codes "false")) (codes "true")
+
 -- whether the table is asked for
 abbrev pub wants_table : RawValues → Bool
 wants_table a = bytes_eq (text_or a.table (codes "false")) (codes "true")
@@ -34,7 +38,8 @@ task_of a = task (wants_table a) (wants_holes a) (wants_json a)
 -- whether an option is given that says how lines are read, or printed
 abbrev pub has_line_option : RawValues → Bool
 has_line_option a = is_some a.unit || (is_some a.offset || (is_some a.column
-    || (is_some a.header || (is_some a.name || wants_why a))))
+    || (is_some a.header || (is_some a.name || (wants_why a || (wants_bound a
+    || is_some a.within))))))
 
 -- whether what was done with the lines is not said
 abbrev pub wants_quiet : RawValues → Bool

@@ -56,15 +56,17 @@ pub enum OptionFault {
     Unnamed,
     #[error("--year: not a year of four digits, from 1000 to 9998")]
     Year,
+    #[error("--within: not a number of microseconds")]
+    Within,
     #[error("--form: not ordinal, calendar or seconds")]
     Form,
     #[error("--form calendar: frames of this expression have no year, so give --year")]
     NoYear,
-    #[error("--table: reads no lines, so without --unit, --offset, --column, --header, --name and \
-         --why")]
+    #[error("--table: reads no lines, so without --unit, --offset, --column, --header, --name, \
+         --why, --bound and --within")]
     Table,
     #[error("--holes: reads no lines, so without --table, --unit, --offset, --column, --header, \
-         --name and --why")]
+         --name, --why, --bound and --within")]
     Holes,
     #[error("--json: is the form of --holes, so give --holes")]
     Json,

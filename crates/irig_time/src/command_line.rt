@@ -77,6 +77,8 @@ fn raw_of<'a>(track: &'a str, matches: &ArgMatches<'a>) -> RawValues<'a>
         out: matches.get_str("out"),
         alone: matches.get_str("alone"),
         why: matches.get_str("why"),
+        bound: matches.get_str("bound"),
+        within: matches.get_str("within"),
         table: matches.get_str("table"),
         holes: matches.get_str("holes"),
         json: matches.get_str("json"),
@@ -144,6 +146,13 @@ fn flags_command<'a>(alloc: Global) -> Result<Command<'a>, AllocError>
             alloc,
             "why",
             "a word in place of - says why a line has no time",
+        ))?
+        .arg(flag_arg(alloc, "bound", "how many microseconds each time can be off"))?
+        .arg(option_arg(
+            alloc,
+            "within",
+            "NUMBER",
+            "a time that can be off by more microseconds is none",
         ))
 }
 

@@ -28,18 +28,18 @@ fn help_text<'a>() -> &'a str
      --wire <NAME>          the wire of the dump\n      \
      --from <TIME>          in microseconds, is the new 0: 0\n      \
      --to <TIME>            in microseconds, ends the part that is read\n      \
-     --format <FORMAT>      A, B, E or G: B\n      \
-     --expression <NUMBER>  of the format: 2\n      \
+     --format <FORMAT>      A, B, E or G: B\n      --expression <NUMBER>  of the format: 2\n      \
      --unit <UNIT>          s, ms, us, ns, ps; 10ns, 100ns: us\n      \
      --offset <NUMBER>      its time at the start of TRACK: 0\n      \
      --column <COLUMN>      of its time: a number from 1, or its name in the header: 1\n      \
      --comma <CHARACTER>    parts columns, if not white space\n      \
-     --header <NUMBER>      lines of the header: 0\n      \
-     --name <NAME>          of the new column: time\n      \
-     --year <YEAR>          the year of the first fine frame\n      \
+     --header <NUMBER>      lines of the header: 0\n      --name <NAME>          of the new \
+     column: time\n      --year <YEAR>          the year of the first fine frame\n      \
      --form <FORM>          ordinal, calendar or seconds\n      \
      --alone                take each frame that reads well, supported or not\n      \
      --why                  a word in place of - says why a line has no time\n      \
+     --bound                how many microseconds each time can be off\n      \
+     --within <NUMBER>      a time that can be off by more microseconds is none\n      \
      --table                print a table of the frames; no lines are read\n      \
      --holes                print each stretch without a time; no lines are read\n      \
      --json                 of --holes: an object of JSON for each\n      \

@@ -3,14 +3,14 @@
 ghost use Rattle.std.specs.Prelude.{◌≡◌, ◌&&◌, IfErr, IfOk, false};
 ghost use Rattle.irig_time.specs.Chosen.{HasSettings, IsChosen, IsSound, lacks_year};
 ghost use Rattle.irig_time.specs.Wants.{has_line_option, is_json_alone, is_not_of_holes, task};
-ghost use Rattle.irig_time.specs.Wants.{task_of, wants_alone, wants_holes, wants_json, wants_quiet};
-ghost use Rattle.irig_time.specs.Wants.{wants_table, wants_why};
+ghost use Rattle.irig_time.specs.Wants.{task_of, wants_alone, wants_bound, wants_holes, wants_json};
+ghost use Rattle.irig_time.specs.Wants.{wants_quiet, wants_table, wants_why};
 ghost use Rattle.irig_time.specs.Faults.{HasFault};
 
 use crate::chosen::{Chosen, OptionFault};
 use crate::naming::name_of;
 use crate::raw_values::RawValues;
-use crate::samples::{columns_of, dates_of, header_of};
+use crate::samples::{columns_of, dates_of, header_of, within_of};
 use crate::task::Task;
 use crate::values::is_same;
 use irig_codes::Format;
@@ -128,6 +128,12 @@ fn wants_why(raw: &RawValues<'_>) -> bool
     is_same(text_or(raw.why, "false"), b"true")
 }
 
+fn wants_bound(raw: &RawValues<'_>) -> bool
+    ensures { result ≡ wants_bound raw.now }
+{
+    is_same(text_or(raw.bound, "false"), b"true")
+}
+
 /// Whether an option is given that says how lines are read or printed, so that the table cannot be
 /// asked for.
 fn has_line_option(raw: &RawValues<'_>) -> bool
@@ -139,6 +145,8 @@ fn has_line_option(raw: &RawValues<'_>) -> bool
         || raw.header.is_some()
         || raw.name.is_some()
         || wants_why(raw)
+        || wants_bound(raw)
+        || raw.within.is_some()
 }
 
 /// How lines are read and get their times: the settings for irig_stamps.
@@ -151,6 +159,7 @@ fn settings_of<'a>(raw: &RawValues<'a>) -> Result<Settings<'a>, OptionFault>
     let dates = dates_of(raw)?;
     let header = header_of(raw, columns.column.named)?;
     let name = name_of(raw, columns.comma, header)?;
+    let within = within_of(raw)?;
     Ok(Settings {
         places: columns.places,
         offset: columns.offset.size,
@@ -166,6 +175,8 @@ fn settings_of<'a>(raw: &RawValues<'a>) -> Result<Settings<'a>, OptionFault>
         micros: 0,
         alone: wants_alone(raw),
         why: wants_why(raw),
+        bound: wants_bound(raw),
+        within,
         form: dates.form,
     })
 }

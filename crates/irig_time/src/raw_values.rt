@@ -20,6 +20,8 @@ pub struct RawValues<'a> {
     pub out: Option<&'a str>,
     pub alone: Option<&'a str>,
     pub why: Option<&'a str>,
+    pub bound: Option<&'a str>,
+    pub within: Option<&'a str>,
     pub table: Option<&'a str>,
     pub holes: Option<&'a str>,
     pub json: Option<&'a str>,

@@ -3,8 +3,8 @@
 
 ghost use Rattle.std.specs.Prelude.{◌≡◌, ◌≤◌, ◌<◌, ◌^◌, IfErr, IfOk, IfSome, Some, codes, true};
 ghost use Rattle.irig_time.specs.Faults.{HasFault};
-ghost use Rattle.irig_time.specs.Samples.{HasColumns, HasDates, IsColumn, IsComma, is_column_name};
-ghost use Rattle.irig_time.specs.Samples.{names_column};
+ghost use Rattle.irig_time.specs.Samples.{HasColumns, HasDates, HasWithin, IsColumn, IsComma};
+ghost use Rattle.irig_time.specs.Samples.{is_column_name, names_column};
 ghost use Rattle.irig_time.specs.Values.{whole_between};
 ghost use Rattle.irig_words.specs.Formats.{text_or};
 ghost use Rattle.irig_time.specs.declared.chosen.OptionFault.TheVariants.{Comma};
@@ -20,6 +20,8 @@ use irig_words::text_or;
 const COLUMN_LIMIT: u128 = 65_536;
 
 const HEADER_LIMIT: u128 = 4_294_967_296;
+
+const WITHIN_LIMIT: u128 = 4_294_967_296;
 
 /// The century of years of two digits, if no year is given: 2000 to 2099.
 const CENTURY: u32 = 20;
@@ -138,6 +140,20 @@ fn comma_of(raw: &RawValues<'_>) -> Result<Option<u8>, OptionFault>
     match comma_named(text.as_bytes()) {
         Some(comma) => Ok(Some(comma)),
         None => Err(OptionFault::Comma),
+    }
+}
+
+/// By how many microseconds a time can be off that is printed (`--within`), if that is given.
+pub fn within_of(raw: &RawValues<'_>) -> Result<Option<u64>, OptionFault>
+    ensures within { IfOk result (HasWithin raw.now) }
+    ensures fault { IfErr result (HasFault raw.now) }
+{
+    let Some(text) = raw.within else {
+        return Ok(None);
+    };
+    match whole_between(0, WITHIN_LIMIT, text.as_bytes()) {
+        Some(within) => Ok(Some(within as u64)),
+        None => Err(OptionFault::Within),
     }
 }
 

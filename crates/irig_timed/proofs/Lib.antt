@@ -10,6 +10,8 @@ mod StretchPairs
 mod Surround
 mod AroundRuns
 mod MomentFacts
+mod Widest
+mod BendLists
 -- times that are true
 mod NearLines
 mod TrueMoments

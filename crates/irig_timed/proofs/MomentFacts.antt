@@ -10,7 +10,7 @@ use Rattle.irig_track.proofs.Searches.{risen_above, risen_below}
 use Rattle.irig_times.specs.declared.time.Time.{Time}
 use Rattle.irig_law.specs.declared.{frame.Frame.Frame, point.Point.Point}
 use Rattle.irig_timed.specs.{Apart.elements_after, Around.AreAround, Gaps.gap_between, Knowns.IsKnownIn}
-use Rattle.irig_timed.specs.{Line.counts_to, Line.is_in_hour, Line.since_hour, Line.time_on, Moments.IsElement, Moments.IsMomentBy}
+use Rattle.irig_timed.specs.{Line.counts_to, Line.is_in_hour, Line.since_hour, Line.time_on, Moments.IsElement, Moments.IsMomentBy, Moments.IsMomentOn}
 use Rattle.irig_timed.specs.{Reasons.gap_with, Reasons.has_doubtful, Reasons.with_doubt, Surroundings.IsAround, Surroundings.IsLine}
 use Rattle.irig_timed.specs.declared.{around.Around.Around, gap.Gap.Gap, run.Place.Place, run.Run.Run}
 use Rattle.irig_timed.specs.declared.gap.Gap.TheVariants.{Line, Untimed}
@@ -84,7 +84,7 @@ module _ (f : FormatView) (century : ℕ) (ps : List Pulse) (believed : List Fra
       pub around-line : AreAround P risen (Some p) (Some q)
       around-line = subst (λ o. AreAround P risen (Some p) o) line.next (subst (λ o. AreAround P risen o a.to) line.last around.around)
 
-      gap-line : gap_between f century ps believed p q ≡ Line bound
+      pub gap-line : gap_between f century ps believed p q ≡ Line bound
       gap-line =
           let doubt = has_doubtful f (Some p) (Some q) (frames f ps) held in
           line-of doubt (gap_between f century ps believed p q) bound
@@ -93,20 +93,26 @@ module _ (f : FormatView) (century : ℕ) (ps : List Pulse) (believed : List Fra
       abbrev pub time : Time
       time = time_on f p.point q.point (elements_after f century p.point q.point) (n - d * point.rise) (d * (next.rise - point.rise))
 
-      pub moment-is : IsMomentBy f century ps believed d n time bound
-      moment-is = record {
-        from = p;
-        to = q;
-        point = point;
-        next = next;
-        around = subst (λ r. AreAround P r (Some p) (Some q)) is around-line;
-        stands = at;
-        stands_next = at_too;
-        line = gap-line;
-        is = refl;
-      }
+      pub moment-on : (t : Time) → t ≡ time
+          → IsMomentOn f century ps believed d n (record { time = t; bound = bound; from = p.number; to = q.number })
+      moment-on t at-time = (
+        record {
+          from = p;
+          to = q;
+          point = point;
+          next = next;
+          around = subst (λ r. AreAround P r (Some p) (Some q)) is around-line;
+          stands = at;
+          stands_next = at_too;
+          line = gap-line;
+          is = at-time;
+        },
+        refl,
+        refl,
+      )
 
-      pub moment-same : (t : Time) (b : ℕ) → IsMomentBy f century ps believed d n t b → (time ≡ t) × (bound ≡ b)
+      pub moment-same : (t : Time) (b : ℕ) (h : IsMomentBy f century ps believed d n t b)
+          → (time ≡ t) × (bound ≡ b) × (p.number ≡ h.from.number) × (q.number ≡ h.to.number)
       moment-same t b h =
           let there = subst (λ r. AreAround P r (Some h.from) (Some h.to)) (sym is) h.around in
           let ep : p ≡ h.from = same_Some p h.from (last-once P element-once risen (Some p) (Some h.from) around-line.last there.last) in
@@ -116,7 +122,7 @@ module _ (f : FormatView) (century : ℕ) (ps : List Pulse) (believed : List Fra
           let times : time ≡ t = (λ i. time_on f (ep i).point (eq i).point (elements_after f century (ep i).point (eq i).point)
           (n - d * (first i).rise) (d * ((second i).rise - (first i).rise))) ∙ sym h.is in
           let lines = sym gap-line ∙ ((λ i. gap_between f century ps believed (ep i) (eq i)) ∙ h.line) in
-          (times, same-bound bound b lines)
+          (times, same-bound bound b lines, ap (λ (z : Place). z.number) ep, ap (λ (z : Place). z.number) eq)
 
 -- what is known by some lists is known by the same ones
 pub known-by : (f : FormatView) (century : ℕ) (ps : List Pulse) (believed : List Frame) (held : List Bool) (runs : List Run) (gaps : List Gap)

@@ -4,6 +4,7 @@ use Rattle.std.proofs.lemmas.Bool.{cases_lt, le-ltb, lt-ltb}
 use Rattle.std.proofs.lemmas.Option.{same_Some, slice_get-get_or, slice_get_within}
 use Rattle.irig_recording.specs.declared.pulse.Pulse.{Pulse}
 use Rattle.irig_law.specs.{Points.AreFrames, declared.frame.Frame.Frame}
+use Rattle.irig_timed.specs.{Bends.frame_before, Bends.last_by, Bends.last_from, Bends.next_by}
 use Rattle.irig_timed.specs.Stretches.{FramesUpTo, pair_at, stretch_at, stretch_from}
 
 abbrev pub none-frame : Frame
@@ -35,6 +36,47 @@ stretch-pair (a ∷ frames) k (suc c) h few =
     let begun = h.before 0 a refl (omega arith) in
     from-pair a frames k c h (omega (arith, few))
     ∙ sym (ap (λ v. cond v None (stretch_from a frames k)) (le-ltb k a.marker begun))
+
+-- the last of them, and the first one after it
+later-frames : (a : Frame) (frames : List Frame) (k c : ℕ) → FramesUpTo (a ∷ frames) k (suc c) → FramesUpTo frames k c
+later-frames a frames k c h = record {
+  before = λ i x at less. h.before (suc i) x at (omega (arith, less));
+  after = λ i x at le. h.after (suc i) x at (omega (arith, le));
+}
+
+from-last : (a : Frame) (frames : List Frame) (k c : ℕ) → FramesUpTo (a ∷ frames) k (suc c) → c ≤ length frames
+    → slice_get (a ∷ frames) c ≡ Some (last_from a frames k)
+from-last a [] k zero h few = refl
+from-last a [] k (suc c) h few = absurd (omega (arith, few))
+from-last a (b ∷ frames) k zero h few =
+    let later = h.after 1 b refl (omega arith) in
+    sym (ap (λ v. Some (cond v a (last_from b frames k))) (lt-ltb k b.marker later))
+from-last a (b ∷ frames) k (suc c) h few =
+    let begun = h.before 1 b refl (omega arith) in
+    from-last b frames k c (later-frames a (b ∷ frames) k (suc c) h) (omega (arith, few))
+    ∙ sym (ap (λ v. Some (cond v a (last_from b frames k))) (le-ltb k b.marker begun))
+
+pub last-pair : (frames : List Frame) (k many : ℕ) → FramesUpTo frames k many → many ≤ length frames → frame_before frames many ≡ last_by frames k
+last-pair [] k zero h few = refl
+last-pair [] k (suc c) h few = absurd (omega (arith, few))
+last-pair (a ∷ frames) k zero h few =
+    let later = h.after 0 a refl (omega arith) in
+    sym (ap (λ v. cond v None (Some (last_from a frames k))) (lt-ltb k a.marker later))
+last-pair (a ∷ frames) k (suc c) h few =
+    let begun = h.before 0 a refl (omega arith) in
+    from-last a frames k c h (omega (arith, few))
+    ∙ sym (ap (λ v. cond v None (Some (last_from a frames k))) (le-ltb k a.marker begun))
+
+pub next-pair : (frames : List Frame) (k many : ℕ) → FramesUpTo frames k many → many ≤ length frames → slice_get frames many ≡ next_by frames k
+next-pair [] k zero h few = refl
+next-pair [] k (suc c) h few = refl
+next-pair (a ∷ frames) k zero h few =
+    let later = h.after 0 a refl (omega arith) in
+    sym (ap (λ v. cond v (Some a) (next_by frames k)) (lt-ltb k a.marker later))
+next-pair (a ∷ frames) k (suc c) h few =
+    let begun = h.before 0 a refl (omega arith) in
+    next-pair frames k c (later-frames a frames k c h) (omega (arith, few))
+    ∙ sym (ap (λ v. cond v (Some a) (next_by frames k)) (le-ltb k a.marker begun))
 
 module _ (ps : List Pulse) (frames : List Frame) (are : AreFrames ps frames) where
   apart-by : (i d : ℕ) (a b : Frame) → slice_get frames i ≡ Some a → slice_get frames (i + suc d) ≡ Some b → a.marker < b.marker

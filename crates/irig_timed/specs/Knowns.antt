@@ -2,7 +2,7 @@
 use Rattle.std.specs.Prelude.{◌≡◌, ◌↔◌, ℕ, ◌≤◌, Bool, List, length, Some, slice_get}
 use Rattle.irig_codes.specs.Format.{FormatView}
 use Rattle.irig_recording.specs.declared.pulse.Pulse.{Pulse}
-use Rattle.irig_law.specs.declared.frame.Frame.{Frame}
+use Rattle.irig_law.specs.{Points.AreFrames, declared.frame.Frame.Frame}
 use Rattle.irig_law.specs.declared.point.Point.{Point}
 use Rattle.irig_timed.specs.{Held.held, Moments.IsElement, Moments.frames_by}
 use Rattle.irig_timed.specs.{Reasons.gap_with, Runs.AreRuns, Runs.IsIn, Runs.place_at}
@@ -23,11 +23,11 @@ pub record IsKnownIn (f : FormatView) (century : ℕ) (ps : List Pulse) (believe
   pub points : (k : ℕ) (x : Point) → IsIn runs k x ↔ IsElement f century ps believed k x
   pub are_gaps : AreGaps f century ps believed held runs gaps
 
--- of each record, too, whether its frame is believed
+-- of each record, too, whether its frame is believed, and which frames are
 abbrev pub IsKnownBy : FormatView → ℕ → List Pulse → List Frame → List Bool → Known → Type 0
 IsKnownBy f century ps believed held known =
     IsKnownIn f century ps believed held known.runs.items known.gaps.items
-    × (known.held.items ≡ held)
+    × (known.held.items ≡ held) × (known.frames.items ≡ believed) × AreFrames ps believed
 
 abbrev pub IsKnown : FormatView → Bool → ℕ → List Pulse → Known → Type 0
 IsKnown f alone century ps known =

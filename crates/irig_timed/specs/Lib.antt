@@ -1,5 +1,6 @@
 pub mod Apart
 pub mod Around
+pub mod Bends
 pub mod Elements
 pub mod Gaps
 pub mod Held

@@ -9,6 +9,7 @@ use Rattle.irig_timed.specs.{Around.AreAround, Apart.elements_after}
 use Rattle.irig_timed.specs.{Gaps.gap_between, Line.is_in_hour, Line.time_on}
 use Rattle.irig_law.specs.declared.point.Point.{Point}
 use Rattle.irig_timed.specs.declared.gap.Gap.TheVariants.{Line}
+use Rattle.irig_timed.specs.declared.moment.Moment.{Moment}
 use Rattle.irig_timed.specs.declared.run.Place.{Place}
 
 -- a pulse has a time: it is this element by the law, and not past the end of its hour
@@ -34,6 +35,12 @@ pub record IsMomentBy (f : FormatView) (century : ℕ) (ps : List Pulse) (frames
   pub is : time ≡ time_on f from.point to.point (elements_after f century from.point to.point)
       (n - d * point.rise) (d * (next.rise - point.rise))
 
+-- it has this time and this bound, and is between these pulses
+abbrev pub IsMomentOn : FormatView → ℕ → List Pulse → List Frame → ℕ → ℕ → Moment → Type 0
+IsMomentOn f century ps frames d n x =
+    (m : IsMomentBy f century ps frames d n x.time x.bound)
+    × (m.from.number ≡ x.from) × (m.to.number ≡ x.to)
+
 -- the frames of a track that are believed
 abbrev pub frames_by : FormatView → Bool → ℕ → List Pulse → List Frame
 frames_by f alone century ps = believed f alone century ps
@@ -41,6 +48,10 @@ frames_by f alone century ps = believed f alone century ps
 abbrev pub IsMoment : FormatView → Bool → ℕ → List Pulse → ℕ → ℕ → Time → ℕ → Type 0
 IsMoment f alone century ps d n time bound =
     IsMomentBy f century ps (frames_by f alone century ps) d n time bound
+
+abbrev pub IsMomentOf : FormatView → Bool → ℕ → List Pulse → ℕ → ℕ → Moment → Type 0
+IsMomentOf f alone century ps d n x =
+    IsMomentOn f century ps (frames_by f alone century ps) d n x
 
 -- n / d microseconds after the start it is this time; its bound is this
 abbrev pub IsTimed : FormatView → Bool → ℕ → List Pulse → ℕ → ℕ → Time → Type 0

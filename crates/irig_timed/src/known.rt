@@ -25,6 +25,7 @@ pub struct Known {
     pub gaps: Vec<Gap>,
     /// Of each record of the track, whether its frame is believed.
     pub held: Vec<bool>,
+    pub frames: Vec<Frame>,
 }
 
 impl Known {
@@ -52,7 +53,12 @@ impl Known {
         let gaps = gaps_of(
             alloc, pulses, records, &held, &frames, &runs, format, century,
         )?;
-        Ok(Known { runs, gaps, held })
+        Ok(Known {
+            runs,
+            gaps,
+            held,
+            frames,
+        })
     }
 }
 

@@ -10,6 +10,7 @@ mod known;
 mod law;
 mod line;
 mod moment;
+mod off;
 mod run;
 mod stretch;
 
@@ -18,4 +19,5 @@ pub use held::held_frames;
 pub use known::Known;
 pub use law::{moments_are_true, reasons_are_exact};
 pub use moment::{Moment, time_at, why_at};
+pub use off::off_of;
 pub use run::{Place, Run};

@@ -1,11 +1,11 @@
 //! The time of a moment, and how far it can be off.
 
-ghost use Rattle.std.specs.Prelude.{◌≡◌, ◌↔◌, ◌<◌, ◌≤◌, ◌+◌, ◌^◌, ◌/◌, ℕ, Bool, List, Some, length};
+ghost use Rattle.std.specs.Prelude.{◌≡◌, ◌↔◌, ◌<◌, ◌≤◌, ◌+◌, ◌^◌, ◌/◌, ℕ, Bool, List, Some, IfSome};
+ghost use Rattle.std.specs.Prelude.{length};
 ghost use Rattle.irig_law.specs.declared.frame.Frame.{Frame};
-ghost use Rattle.irig_times.specs.declared.time.Time.{Time};
 ghost use Rattle.irig_track.specs.{Looks.LookedThrough, Splices.risen_by};
-ghost use Rattle.irig_timed.specs.{Knowns.IsKnownBy, Moments.IsMomentBy, Reasons.IsWhyBy};
-ghost use Rattle.irig_timed.specs.Reasons.{reason_in};
+ghost use Rattle.irig_timed.specs.{Knowns.IsKnownBy, Moments.IsMomentOn, Reasons.IsWhyBy};
+ghost use Rattle.irig_timed.specs.{Reasons.reason_in, declared.moment.Moment.Moment};
 
 use crate::apart::elements_after;
 use crate::around::Around;
@@ -19,11 +19,15 @@ use irig_track::Lens;
 /// The picoseconds of a microsecond.
 const PICOS: u64 = 1_000_000;
 
-/// The time of a moment, and by how many trillionths of an interval it can be off.
+/// The time of a moment between two pulses, and by how many trillionths of an interval the line
+/// between them can be off.
 #[derive(Clone, Copy)]
 pub struct Moment {
     pub time: Time,
     pub bound: u64,
+    /// The number of the first pulse, from 0.
+    pub from: usize,
+    pub to: usize,
 }
 
 /// The time `picos` picoseconds after the start of a track. `None` unless a line that is nearly
@@ -40,8 +44,10 @@ pub fn time_at(
         × IsKnownBy format century pulses.old.track.pulses believed held known.now }
     ensures exact { (believed : List Frame) (held : List Bool)
         → IsKnownBy format century pulses.old.track.pulses believed held known.now
-        → (t : Time) (b : ℕ) → (result ≡ Some (record { time = t; bound = b }))
-        ↔ IsMomentBy format century pulses.old.track.pulses believed 1000000 picos t b }
+        → (x : Moment) → (result ≡ Some x)
+        ↔ IsMomentOn format century pulses.old.track.pulses believed 1000000 picos x }
+    ensures low { IfSome result (λ x.
+        (x.from < 2 ^ 27) × (x.to < 2 ^ 27) × (x.bound ≤ 20000000000)) }
     ensures pulses { pulses.new.track ≡ pulses.old.track }
     ensures looked { (digits : ℕ) → length pulses.old.track.pulses < 2 ^ digits →
         LookedThrough pulses.old pulses.new (digits + 2) }
@@ -67,6 +73,8 @@ pub fn time_at(
     Some(Moment {
         time,
         bound: line.bound,
+        from: line.from.number,
+        to: line.to.number,
     })
 }
 

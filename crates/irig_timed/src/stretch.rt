@@ -1,6 +1,7 @@
 //! The two believed frames around a pulse.
 
-ghost use Rattle.std.specs.Prelude.{◌≡◌, ◌<◌, ◌≤◌, ◌^◌, IfSome, length};
+ghost use Rattle.std.specs.Prelude.{◌≡◌, ◌<◌, ◌≤◌, ◌^◌, IfSome, length, slice_get};
+ghost use Rattle.irig_timed.specs.Bends.{frame_before, last_by, next_by};
 ghost use Rattle.irig_timed.specs.Stretches.{AreFramesOf, FramesUpTo, pair_at, stretch_at};
 
 use irig_law::Frame;
@@ -13,6 +14,41 @@ pub fn stretch_at(frames: &[Frame], number: usize) -> Option<(Frame, Frame)>
 {
     let many = frames_up_to(frames, number);
     pair_at(frames, many)
+}
+
+/// The last frame that begins with a pulse or before it, and the first one after that.
+pub fn frames_around(frames: &[Frame], number: usize) -> (Option<Frame>, Option<Frame>)
+    requires frames { AreFramesOf frames.now }
+    ensures last { result.0 ≡ last_by frames.now number }
+    ensures next { result.1 ≡ next_by frames.now number }
+    ensures low { IfSome result.0 (λ a. a.marker < 2 ^ 26) }
+    ensures low_too { IfSome result.1 (λ a. a.marker < 2 ^ 26) }
+{
+    let many = frames_up_to(frames, number);
+    (frame_before(frames, many), frame_at(frames, many))
+}
+
+fn frame_before(frames: &[Frame], many: usize) -> Option<Frame>
+    requires frames { AreFramesOf frames.now }
+    ensures frame { result ≡ frame_before frames.now many }
+    ensures low { IfSome result (λ a. a.marker < 2 ^ 26) }
+{
+    if many == 0 {
+        return None;
+    }
+    frame_at(frames, many - 1)
+}
+
+fn frame_at(frames: &[Frame], place: usize) -> Option<Frame>
+    requires frames { AreFramesOf frames.now }
+    ensures frame { result ≡ slice_get frames.now place }
+    ensures low { IfSome result (λ a. a.marker < 2 ^ 26) }
+{
+    if place < frames.len() {
+        Some(frames[place])
+    } else {
+        None
+    }
 }
 
 /// How many frames begin with a pulse or before it.

@@ -1,5 +1,5 @@
-use Rattle.std.proofs.Common.{◌-◌, arith}
-use Rattle.irig_stamps.proofs.Words.{time-before, time-exact, time-late, timed-none, timed-some}
+use Rattle.std.proofs.Common.{arith}
+use Rattle.irig_stamps.proofs.Words.{time-before, time-exact, time-late}
 use Rattle.irig_stamps.proofs.moment.time_of.Goals as goal
 
 pub returns-then-added-taken-clause-exact : goal.returns-then-added-taken-clause-exact
@@ -13,20 +13,9 @@ returns-then-since-ge-LATE-clause-exact c =
     c.span-added.result.0 c.span-added.result.1 c.len-count.ensures.track c.requires.offset
     (c.span-added.ensures.added, c.span-added.ensures.taken) (omega (arith, c.if-since-ge-LATE.true))
 
-pub returns-in-Some-clause-exact : goal.returns-in-Some-clause-exact
-returns-in-Some-clause-exact c =
-    let s = c.args.settings.now in
+pub returns-clause-exact : goal.returns-clause-exact
+returns-clause-exact c =
     let ps = c.args.pulses.now.track.pulses in
-    time-exact c.args.format ps s c.args.picos c.span-added.result.0 c.span-added.result.1 _
+    time-exact c.args.format ps c.args.settings.now c.args.picos c.span-added.result.0 c.span-added.result.1 c.time_at.result
     c.requires.offset (c.span-added.ensures.added, c.span-added.ensures.taken) (omega (arith, c.if-added-taken.false)) (omega (arith, c.if-since-ge-LATE.false))
-    (timed-some c.args.format s.alone s.century ps 1000000 (c.span-added.result.0 - c.span-added.result.1) c.time_at.result
-    (c.time_at.ensures.exact _ _ c.requires.known) c.in-Some.moment c.in-Some.is)
-
-pub returns-in-None-clause-exact : goal.returns-in-None-clause-exact
-returns-in-None-clause-exact c =
-    let s = c.args.settings.now in
-    let ps = c.args.pulses.now.track.pulses in
-    time-exact c.args.format ps s c.args.picos c.span-added.result.0 c.span-added.result.1 _
-    c.requires.offset (c.span-added.ensures.added, c.span-added.ensures.taken) (omega (arith, c.if-added-taken.false)) (omega (arith, c.if-since-ge-LATE.false))
-    (timed-none c.args.format s.alone s.century ps 1000000 (c.span-added.result.0 - c.span-added.result.1) c.time_at.result
-    (c.time_at.ensures.exact _ _ c.requires.known) c.in-None.is)
+    (c.time_at.ensures.exact _ _ c.requires.known)

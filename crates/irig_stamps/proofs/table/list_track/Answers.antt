@@ -1,7 +1,6 @@
 use Rattle.std.proofs.Common.{◌≡◌, ◌∙◌, ap, subst}
 use Rattle.std.specs.Io.KnownBytes.{Appends}
-use Rattle.irig_index.specs.{Frames.frames, declared.record.Record.Record}
-use Rattle.irig_recording.specs.declared.pulse.Pulse.{Pulse}
+use Rattle.irig_index.specs.{Frames.frames}
 use Rattle.irig_times.specs.FrameLooks.{FramesView}
 use Rattle.irig_track.specs.{Looks.LensView, Track.TrackView}
 use Rattle.irig_stamps.specs.{Dates.doubted, Dates.first_day, Front.AppendsFront}

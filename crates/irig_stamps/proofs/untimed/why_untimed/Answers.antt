@@ -21,6 +21,6 @@ returns-in-None-clause-why c =
     let why = c.why_at.ensures.why s.century _ _ known in
     let none = timed-none c.args.format s.alone s.century ps 1000000 at c.time_at.result (c.time_at.ensures.exact _ _ c.requires.known) c.in-None.is in
     record {
-      none = λ x is. none-some x ((none x).1 is);
+      none = none;
       is = subst (λ (t : TrackView). IsWhy c.args.format s.alone s.century t.pulses (risen_by (at / 1000000) t.pulses) c.why_at.result) same why;
     }

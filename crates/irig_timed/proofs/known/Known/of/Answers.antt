@@ -1,7 +1,7 @@
 use Rattle.std.proofs.Common.{Bool, List, ap, ◌∙◌, subst}
 use Rattle.std.specs.Prelude.{◌↔◌}
 use Rattle.irig_recording.specs.declared.pulse.Pulse.{Pulse}
-use Rattle.irig_law.specs.{declared.frame.Frame.Frame}
+use Rattle.irig_law.specs.{Points.AreFrames, declared.frame.Frame.Frame}
 use Rattle.irig_timed.specs.{Held.held, Held.held_in, Knowns.AreGaps, Moments.IsElement, Moments.frames_by, Runs.AreRuns, Runs.IsIn}
 use Rattle.irig_timed.specs.declared.run.Run.{Run}
 use Rattle.irig_timed.proofs.known.Known.of.Goals as goal
@@ -34,4 +34,6 @@ returns-clause-known c =
             c.in_ok-gaps.ensures.gaps)));
       },
       is-held,
+      c.in_ok-frames.ensures.believed,
+      subst (λ (l : List Frame). AreFrames ps l) c.in_ok-frames.ensures.believed c.in_ok-frames.ensures.frames,
     )
