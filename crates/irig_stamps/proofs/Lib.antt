@@ -3,6 +3,7 @@ pub mod Digits
 pub mod MovedPoints
 pub mod Late
 pub mod Words
+pub mod TrueWords
 pub mod StampedLines
 pub mod Tallied
 pub mod Moments

@@ -10,7 +10,7 @@ use Rattle.irig_track.specs.Looks.{counted}
 use Rattle.irig_stamps.specs.Looks.{header_look, line_look, look_at, looks}
 use Rattle.irig_stamps.specs.{HeaderUnits.names_other_unit}
 use Rattle.irig_stamps.specs.Stamped.{AreOut, Stamped, is_plain, unlines}
-use Rattle.irig_stamps.specs.{Offs.header_cell, Stamps.IsOut, Stamps.header_name, Stamps.header_word, Stamps.is_header, Tallies.IsTally}
+use Rattle.irig_stamps.specs.{Offs.header_cell, Outs.IsOut, Outs.header_name, Outs.header_word, Outs.is_header, Tallies.IsTally}
 use Rattle.irig_stamps.specs.declared.{settings.Settings.Settings, look.Look.Look, tally.Tally.Tally}
 
 pub plain-append : (xs ys : List ℕ) → is_plain xs ≡ true → is_plain ys ≡ true → is_plain (xs ++ ys) ≡ true

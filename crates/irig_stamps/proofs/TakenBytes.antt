@@ -6,7 +6,7 @@ use Rattle.std.proofs.lemmas.{Bool.and_from, Bool.eqb-true, List.append-nil, Lis
 use Rattle.irig_codes.specs.Format.{FormatView}
 use Rattle.irig_recording.specs.declared.pulse.Pulse.{Pulse}
 use Rattle.irig_track.specs.Looks.{counted}
-use Rattle.irig_stamps.specs.{Looks.look_at, Stamps.IsOut, Stamps.header_word, Tallies.IsTally}
+use Rattle.irig_stamps.specs.{Looks.look_at, Outs.IsOut, Outs.header_word, Tallies.IsTally}
 use Rattle.irig_stamps.specs.declared.{look.Look.Look, tally.Tally.Tally}
 use Rattle.irig_stamps.specs.Steps.{PushesAs, Takes, TakesAs}
 use Rattle.irig_stamps.specs.Stamped.{Stamped, is_plain}

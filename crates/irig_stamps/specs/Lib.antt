@@ -9,6 +9,7 @@ pub mod Looks
 pub mod Named
 pub mod Numbers
 pub mod Offs
+pub mod Outs
 pub mod Points
 pub mod Printed
 pub mod Reasons
@@ -21,6 +22,7 @@ pub mod Tables
 pub mod Tallies
 pub mod Texts
 pub mod TrackSettings
+pub mod TrueLines
 pub mod Uneven
 pub mod UnitNames
 pub mod Widths

@@ -5,7 +5,7 @@ use Rattle.irig_track.specs.Looks.{counted}
 use Rattle.irig_stamps.specs.{Columns.is_digit, Widths.width_of, declared.picos.Picos.Picos}
 use Rattle.irig_stamps.specs.{declared.look.Look.Look, declared.settings.Settings.Settings}
 use Rattle.irig_stamps.specs.{HeaderUnits.names_other_unit}
-use Rattle.irig_stamps.specs.Stamps.{added, is_header, picos_in, taken}
+use Rattle.irig_stamps.specs.{Outs.is_header, Stamps.added, Stamps.picos_in, Stamps.taken}
 
 -- when the recorder's time v is, in picoseconds after the start of the track, if it is in the track
 abbrev pub moment_at : Settings → Picos → Option ℕ

@@ -4,7 +4,7 @@ use Rattle.std.specs.Prelude.{List, [], ◌∷◌, ◌++◌, length, min}
 use Rattle.std.specs.List.{list_all, flat_map}
 use Rattle.irig_codes.specs.Format.{FormatView}
 use Rattle.irig_recording.specs.declared.pulse.Pulse.{Pulse}
-use Rattle.irig_stamps.specs.{Looks.looks, Stamps.IsOut, Stamps.header_word, Tallies.IsTally}
+use Rattle.irig_stamps.specs.{Looks.looks, Outs.IsOut, Outs.header_word, Tallies.IsTally}
 use Rattle.irig_stamps.specs.declared.settings.Settings.{Settings}
 use Rattle.irig_stamps.specs.declared.tally.Tally.{Tally}
 

@@ -1,14 +1,13 @@
--- A line with its time before it. This project's own.
-use Rattle.std.specs.Prelude.{◌≡◌, ℕ, ◌-◌, ◌≤◌, ◌++◌, List, [], ◌∷◌, Option, Some, None, unwrap_or}
-use Rattle.std.specs.Prelude.{Bool, true, false, ◌⊎◌, ◌==◌, ◌+◌, ◌/◌, ◌<◌, nat_lt}
-use Rattle.std.specs.Prelude.{if◌then◌else◌}
+-- The words before a line, by the recorder's time in it. This project's own.
+use Rattle.std.specs.Prelude.{◌≡◌, ℕ, ◌-◌, ◌≤◌, ◌++◌, List, [], ◌∷◌, Option, Some, None}
+use Rattle.std.specs.Prelude.{Bool, true, false, ◌⊎◌, ◌+◌, ◌/◌, ◌<◌, if◌then◌else◌}
 use Rattle.irig_codes.specs.Format.{FormatView}
 use Rattle.irig_recording.specs.declared.pulse.Pulse.{Pulse}
 use Rattle.irig_track.specs.Splices.{risen_by}
 use Rattle.irig_times.specs.declared.why.Why.{Why}
 use Rattle.irig_times.specs.declared.why.Why.TheVariants.{Before}
 use Rattle.irig_timed.specs.{Moments.IsMomentOf, Reasons.IsWhy, declared.moment.Moment.Moment}
-use Rattle.irig_stamps.specs.{Offs.cell, Offs.header_cell, Offs.timed_word, Reasons.why_text}
+use Rattle.irig_stamps.specs.{Offs.cell, Offs.timed_word, Reasons.why_text}
 use Rattle.irig_stamps.specs.{declared.picos.Picos.Picos, declared.settings.Settings.Settings}
 use Rattle.irig_stamps.specs.{Columns.column_of, Numbers.number_in}
 
@@ -52,28 +51,3 @@ IsWord f ps s (Some v) word =
     ((x : Moment) → IsTimeOf f ps s v x → word ≡ timed_word f ps s x)
     × (((x : Moment) → IsTimeOf f ps s v x → ⊥)
     → (none : List ℕ) × IsNone s.why f ps s v none × (word ≡ none ++ cell s (45 ∷ [])))
-
--- what comes out for a line of no header: its word, the separator, and the line as it was
-pub record IsStamped (f : FormatView) (ps : List Pulse) (s : Settings) (line out : List ℕ)
-    : Type 0 where
-  pub word : List ℕ
-  pub is_word : IsWord f ps s (picos_in s line) word
-  pub whole : out ≡ word ++ (unwrap_or s.comma 9 ∷ line ++ 10 ∷ [])
-
--- whether a line is one of the header, if n lines are before it
-abbrev pub is_header : Settings → ℕ → Bool
-is_header s n = nat_lt n s.header
-
--- the words before such a line, if it is one of the header: the names of the new columns in the
--- last one, else hyphens
-abbrev pub header_name : Settings → ℕ → List ℕ
-header_name s n = if n + 1 == s.header then s.name.now else 45 ∷ []
-
-abbrev pub header_word : Settings → ℕ → Option (List ℕ)
-header_word s n =
-    if is_header s n then Some (header_name s n ++ header_cell s n) else None
-
--- what comes out for a line: its word, the separator, and the line as it was
-abbrev pub IsOut : FormatView → List Pulse → Settings → Option (List ℕ) → List ℕ → List ℕ → Type 0
-IsOut f ps s (Some word) line out = out ≡ word ++ (unwrap_or s.comma 9 ∷ line ++ 10 ∷ [])
-IsOut f ps s None line out = IsStamped f ps s line out

@@ -39,7 +39,7 @@ pub use aligning::align;
 pub use fault::{PrintFault, RunFault};
 pub use hole_list::list_holes;
 pub use holes::Holes;
-pub use law::digits_tell_times;
+pub use law::{digits_tell_times, printed_times_are_true};
 pub use numbers::{number, whole};
 pub use outcome::{Outcome, Standing};
 pub use picos::Picos;

@@ -3,13 +3,14 @@
 ghost use Rattle.std.specs.Prelude.{◌≡◌, ◌<◌, ◌≤◌, ◌^◌, ◌++◌, ◌∷◌, [], ℕ, List};
 ghost use Rattle.std.specs.Prelude.{IfOk, IfSome, OnOk, unwrap_or};
 ghost use Rattle.irig_stamps.specs.Looks.{begins, header_look, line_look, look_at};
-ghost use Rattle.irig_stamps.specs.Stamps.{IsOut, IsStamped, header_name, header_word};
+ghost use Rattle.irig_stamps.specs.Outs.{IsOut, IsStamped, header_name, header_word};
 ghost use Rattle.irig_stamps.specs.Offs.{header_cell};
 ghost use Rattle.irig_stamps.specs.Reasons.{IsKnownOf};
 
 use crate::columns::{column, width};
 use crate::cutting::is_digit;
 use crate::header_unit::names_other_unit;
+use crate::law::printed_times_are_true;
 use crate::look::Look;
 use crate::moment::moment_of;
 use crate::numbers::number;
@@ -103,6 +104,8 @@ fn put_stamped(
         × (look ≡ line_look settings.now count line.now out)) }
     ensures pulses { pulses.new.track ≡ pulses.old.track }
 {
+    // For the proof alone: its contract has the law.
+    printed_times_are_true();
     let column = column(settings.comma, settings.column, line);
     let number = number(settings.places, column);
     let stamp = stamp_of(pulses, known, format, settings, number);

@@ -15,6 +15,7 @@ mod BendLists
 -- times that are true
 mod NearLines
 mod TrueMoments
+mod NearMoments
 -- times of the calendar, and reasons
 pub mod TimedCalendar
 pub mod Kept

@@ -8,7 +8,7 @@ use Rattle.irig_codes.specs.declared.format.Kind.TheVariants.{A, B, E, G}
 use Rattle.irig_law.specs.{Holes.units_of, Holes.Rate, Holes.HolesAreBounded}
 use Rattle.irig_timed.specs.{Gaps.most_off, Line.over_in, Truths.PassesNearly, Truths.units_in}
 
-unscaled : (k a b : ℕ) → 0 < k → k * a ≤ k * b → a ≤ b
+pub unscaled : (k a b : ℕ) → 0 < k → k * a ≤ k * b → a ≤ b
 unscaled k a b some le = elim (cases_lt b a) [
   | inl less ↦
       let next : b + 1 ≤ a = omega (arith, less) in
@@ -37,7 +37,7 @@ module _ (least most x y u low high more : ℕ) (some : 0 < x + y) (under : low 
   near passed from to = (omega (arith, from, slow-first, fast-last), omega (arith, to, fast-first, slow-last))
 
 -- an interval has whole microseconds, and a microsecond whole units
-whole-units : (k : Kind) (n : ℕ) → n * 1000000000000 ≡ 1000000000000 / interval_of k * (n * interval_of k)
+pub whole-units : (k : Kind) (n : ℕ) → n * 1000000000000 ≡ 1000000000000 / interval_of k * (n * interval_of k)
 whole-units A n = omega arith
 whole-units B n = omega arith
 whole-units E n = omega arith

@@ -1,5 +1,5 @@
 -- The time of each moment is true, to its bound.
-use Rattle.std.proofs.Common.{◌≡◌, ◌&&◌, ◌==◌, inl, inr, ◌<◌, ◌≤◌, ◌+◌, ◌-◌, ◌*◌, ◌/◌, ℕ, nat_le, nat_lt, Bool, true, false, cond, List, Some, arith, sym, ap, ◌∙◌}
+use Rattle.std.proofs.Common.{◌≡◌, ◌&&◌, ◌==◌, inl, inr, ◌<◌, ◌≤◌, ◌+◌, ◌-◌, ◌*◌, ◌/◌, ℕ, nat_le, nat_lt, Bool, true, false, cond, List, Option, Some, None, arith, refl, sym, ap, ◌∙◌}
 use Rattle.std.proofs.Math.Nat.{lt-mul-div-succ, mul-le-mul_left}
 use Rattle.std.proofs.lemmas.Bool.{cases_lt}
 use Rattle.irig_codes.specs.{Format.FormatView}
@@ -47,6 +47,20 @@ bound-is f ps frames one other n bound some is a b at =
     let free = is_free f ps one other in
     let over = by-words (is_step f ps one other n) (n == 0) (gap_over f ps free (stretch_at frames one) long n) bound some is in
     by-clock (nat_lt c.slack c.span) free (rate_of c) long (units_of n) bound some (ap (λ s. gap_over f ps free s long n) (sym at) ∙ over)
+
+some-stretch : (f : FormatView) (ps : List Pulse) (free : Bool) (s : Option (Frame × Frame)) (long n bound : ℕ) → gap_over f ps free s long n ≡ Line bound
+    → (x : Frame × Frame) × (s ≡ Some x)
+some-stretch f ps free None long n bound is = absurd (cc is)
+some-stretch f ps free (Some x) long n bound is = (x, refl)
+
+-- it is in a stretch
+pub line-stretch : (f : FormatView) (ps : List Pulse) (frames : List Frame) (one other n bound : ℕ) → 0 < bound
+    → gap_of f ps frames one other n ≡ Line bound → (x : Frame × Frame) × (stretch_at frames one ≡ Some x)
+line-stretch f ps frames one other n bound some is =
+    let long = micros_between ps one other in
+    let free = is_free f ps one other in
+    some-stretch f ps free (stretch_at frames one) long n bound
+    (by-words (is_step f ps one other n) (n == 0) (gap_over f ps free (stretch_at frames one) long n) bound some is)
 
 module _ (f : FormatView) (century micros : ℕ) (ps : List Pulse) (frames : List Frame) (track : IsLongTrack micros ps) (d n : ℕ) (some : 0 < d)
     (time : Time) (bound : ℕ) (m : IsMomentBy f century ps frames d n time bound) where

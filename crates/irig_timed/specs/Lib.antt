@@ -7,9 +7,11 @@ pub mod Held
 pub mod Knowns
 pub mod Line
 pub mod Moments
+pub mod NearTimes
 pub mod ReasonLaws
 pub mod Reasons
 pub mod Runs
 pub mod Stretches
 pub mod Surroundings
+pub mod TrueMoments
 pub mod Truths

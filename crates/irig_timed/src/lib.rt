@@ -17,7 +17,7 @@ mod stretch;
 pub use gap::Gap;
 pub use held::held_frames;
 pub use known::Known;
-pub use law::{moments_are_true, reasons_are_exact};
+pub use law::{moments_are_true, reasons_are_exact, times_are_near};
 pub use moment::{Moment, time_at, why_at};
 pub use off::off_of;
 pub use run::{Place, Run};

@@ -45,10 +45,16 @@ returns-clause-stamped c =
     let after : drop c.len-start.result all ≡ out =
     ap (λ n. drop n all) start ∙ (ap (λ t. drop (length old) t) (c.deref.ensures.value ∙ text) ∙ drop-append_seam old out) in
     let timed : c.begins.result ≡ begins out = c.begins.ensures ∙ ap begins (rest_whole all c.len-start.result ∙ after) in
+    let is = c.stamp_of-stamp.ensures.word v number in
     let line : c.saturating_add.result ≡ counted c.args.count 1 = omega (arith, c.saturating_add.ensures) in
     let numbered : c.is_some.result ≡ is_some v = c.is_some.ensures ∙ (ap (λ o. is_some o) number ∙ some-capped v) in (
       out,
-      record { word = word; is_word = c.stamp_of-stamp.ensures.word v number; whole = refl },
+      record {
+        word = word;
+        is_word = is;
+        is_true = c.printed_times_are_true.ensures.words c.args.format c.args.pulses.now.track.pulses s v word is;
+        whole = refl;
+      },
       text,
       same-look _ _ _ _ _ _ _ _ _ _ line c.width.ensures numbered timed (c.moment_of.ensures v number),
     )

@@ -1,5 +1,5 @@
 use Rattle.std.proofs.Common.{rules, ◌≡◌, List, ℕ, subst}
-use Rattle.irig_stamps.specs.{Looks.look_at, Stamps.IsOut, Stamps.header_word}
+use Rattle.irig_stamps.specs.{Looks.look_at, Outs.IsOut, Outs.header_word}
 use Rattle.irig_stamps.proofs.TakenBytes.{line-taken}
 use Rattle.irig_stamps.proofs.taking.end_line.Goals as goal
 
