@@ -79,7 +79,7 @@ def one_table(files: Sequence[TimedFile]) -> Iterator[bytes]:
     parts = columns_of(files) if any(heads) else [(b"", b"")] * len(files)
     between = files[0].comma or TAB
     if any(heads):
-        yield between.join([next(head[0] for head in heads if head), *names_of(heads)]) + b"\n"
+        yield between.join([heads[0][0], *names_of(heads)]) + b"\n"
     in_order = merge(*(placed(each, each.in_order(), part) for each, part in zip(files, parts)), key=itemgetter(0))
     yield from (between.join(each) + b"\n" for each in in_order)
     for each, part in zip(files, parts):
@@ -88,7 +88,7 @@ def one_table(files: Sequence[TimedFile]) -> Iterator[bytes]:
 
 def columns_of(files: Sequence[TimedFile]) -> List[Tuple[bytes, bytes]]:
     """What is before the columns of each file, and after them: empty ones."""
-    between, sizes = files[0].comma or TAB, [max(0, len(each.head) - 1) for each in files]
+    between, sizes = files[0].comma or TAB, [len(each.head) - 1 for each in files]
     return [(between * sum(sizes[:number]), between * sum(sizes[number + 1:])) for number in range(len(files))]
 
 

@@ -8,6 +8,7 @@ from operator import itemgetter
 from typing import IO, Iterator, List, Optional, Tuple
 
 from .editor import Problem
+from .texts import counted
 
 TAB = b"\t"
 FORMS = (  # of a time: what it is called, and what it looks like
@@ -23,6 +24,7 @@ FIRST_IS_NO_TIME = "%s: line %d begins with no time as irig_time prints it; --he
     "columns"
 NO_DAY = "%s: line %d: a time in seconds says no day; irig_time --form ordinal or calendar does"
 TWO_FORMS = "%s: line %d: its time has %s, and those before it have %s; give irig_time the same --form and --year"
+ENDS_IN_HEAD = "%s: ends before its header does, after %s"
 TWO_SIZES = "%s: line %d has %d columns, and the head has %d"
 
 TimedLine = Tuple[bytes, bytes]  # a time, and the line after it
@@ -75,7 +77,7 @@ class TimedFile:
         with open(self.path, "rb") as file:
             lines = [line.rstrip(b"\r\n") for line in islice(file, self.header)]
         if len(lines) < self.header:
-            return []
+            raise Problem(ENDS_IN_HEAD % (self.name, counted(len(lines), "line")))
         time, _, rest = lines[-1].partition(self.comma or TAB)
         return [time, *self.cells(rest)]
 
