@@ -11,7 +11,7 @@ from unittest import mock
 
 from built import TOP
 from cases import case
-from irig_tools import analysis, edits, mend, readings, search, spans, unread
+from irig_tools import analysis, damage, edits, mend, readings, search, spans, unread
 from irig_tools.check import Check, Moved
 from irig_tools.editor import Editor, Listing
 from irig_tools.layout import Layout
@@ -157,6 +157,15 @@ def of_set_clocks():
     cut = cut[:730] + [[a - 1450000, b - 1450000] for a, b in cut[875:]]
     yield same("elements that are missing", said(looked_at(cut)),
                ["145 elements are missing by the times of the frames, and the rest follows at once"])
+
+
+def of_holes_with_a_set_clock():
+    """If the clock was set in a hole, nothing says which frames were there, and still it is one place."""
+    for name, seconds in (("later", 33), ("earlier", 23)):
+        pulses = signal(24)[:2050] + [[a + 27000000, b + 27000000] for a, b in signal(30, begin=MIDDAY + 100 * seconds)[20:]]
+        found = [each for part in looked_at(pulses).parts for each in damage._of_part(part)]
+        yield same("set to a time that is " + name, [(each.at, each.until, each.seen) for each in found],
+                   [(20500000, 27200000, "670 elements without a pulse")])
 
 
 def with_a_pause(kind, pause):
@@ -354,6 +363,7 @@ def cases():
     """Each kind by its name."""
     return [case("mend: rare: " + name, holds) for name, holds in (
         ("noise", of_noise), ("centuries", of_centuries), ("clocks that were set", of_set_clocks),
+        ("clocks that were set in a hole", of_holes_with_a_set_clock),
         ("recorders that stopped", of_recorders_that_stopped), ("bases", of_bases),
         ("leap seconds", of_leap_seconds),
         ("steady control functions", of_steady_control), ("control functions with a rule", of_rules),

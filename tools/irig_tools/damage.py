@@ -111,9 +111,10 @@ def _extremes(clock: Clock) -> str:
 
 
 def _of_part(part: Part) -> List[Damage]:
-    """Its faulty places; those one after the other are a group."""
-    groups = grouped(sorted(part.faults.wanted), lambda before, place: place != before + 1)
-    return [each for group in groups for each in _of_places(part.faults, group)]
+    """Its faulty places; those one after the other are a group, with what is lost between them."""
+    faults = part.faults
+    groups = grouped(sorted({*faults.wanted, *faults.unsaid}), lambda before, place: place != before + 1)
+    return [each for group in groups if not faults.unsaid.issuperset(group) for each in _of_places(faults, group)]
 
 
 def _of_places(faults: Faults, group: Sequence[PlaceNumber]) -> List[Damage]:
@@ -122,7 +123,8 @@ def _of_places(faults: Faults, group: Sequence[PlaceNumber]) -> List[Damage]:
     at_first = track.pulses_at(first)
     reach = track.spans(first, at_first[-1]) if at_first else 0
     if len(group) == 1 or (len(group) < limits.TOGETHER and reach != len(group) - 1):
-        names = [(place, faults.name(place), "%s; %s" % (faults.seen(place), faults.reason(place))) for place in group]
+        names = [(place, faults.name(place), "%s; %s" % (faults.seen(place), faults.reason(place))) for place in group
+                 if place in faults.wanted]
         return [_of_stretch(faults, [place], name, seen, faults.kind(place)) for place, name, seen in names]
     empty = sum(not track.pulses_at(place) for place in group)
     if reach == len(group) - 1:

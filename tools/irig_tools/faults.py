@@ -58,6 +58,7 @@ class Faults:
         self.rises, self.falls = track.rises, track.falls
         self.widths = Widths(track.rises, track.falls, track.classes, self.layout.interval)
         self.wanted: Dict[PlaceNumber, str] = {}
+        self.unsaid: Set[PlaceNumber] = set()  # places without a pulse, where nothing says which class has to be
         self.guesses: Dict[PlaceNumber, str] = {}  # places of control functions that nothing says
         self.by_rule: Set[PlaceNumber] = set()  # places of control functions that a rule says
         self.by_others: Set[PlaceNumber] = set()  # and that other recordings have
@@ -133,6 +134,7 @@ class Faults:
                 self.wanted[place] = target
             else:
                 unknown.append(element)
+                self.unsaid.update([place] * (not self.track.pulses_at(place)))
         self._doubt_control(number, text)
         if unknown and number not in self.left:
             elements = self.times.name(number), ", ".join(map(str, unknown))
