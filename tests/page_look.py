@@ -134,12 +134,20 @@ def crowded_list(browser: Browser) -> None:
     browser.click("#open-only")
 
 
+def cut_words(browser: Browser) -> object:
+    """The words that reach over the upper or the lower edge of their picture."""
+    return browser.run("""[...document.querySelectorAll("main svg text")].filter((each) => {
+        const [words, whole] = [each, each.ownerSVGElement].map((it) => it.getBoundingClientRect());
+        return words.top < whole.top || words.bottom > whole.bottom; }).map((each) => each.textContent)""")
+
+
 def times_of_day(browser: Browser) -> None:
     """A time of the recording as a time of day, and those of the strip."""
     times = "[0, 1e6, 3600.25e6, 43200e6].map((time) => dayTime(time, 2))"
     check("the time of day", ["12:00:00.00", "12:00:01.00", "13:00:00.25", "00:00:00.00"], browser.run(times))
     shown_times = "[...document.querySelectorAll('#strip .of-day')].every((each) => /^[0-9]{2}:[0-9]{2}:[0-9]{2}$/.test(each.textContent))"
     check("the strip has it", True, browser.run(shown_times))
+    check("no words are cut", [], cut_words(browser))
 
 
 def crowded(browser: Browser, address: str) -> None:
@@ -231,6 +239,7 @@ def marks(browser: Browser) -> None:
     browser.click("#whole")
     counts = "['.now-high', '.now-low'].map((name) => document.querySelectorAll('#strip ' + name).length)"
     check("each stretch has a mark", [3, 1], browser.run(counts))
+    check("and cuts no words", [], cut_words(browser))
     titles = "[...document.querySelectorAll('#strip .now-high title')].map((title) => title.textContent)"
     title = "invert 10500900 10500940: low → high, 40 µs\n# frame 11 at 10000000: broken 50 step, then 061 12:00:10 fine"
     check("that says what it is", title, browser.run(titles)[1])
