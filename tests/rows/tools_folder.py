@@ -5,13 +5,14 @@ import gzip
 import io
 import json
 import os
+import re
 import signal
 import subprocess
 import sys
 import time
 from unittest import mock
 
-from built import TOP
+from built import TIME, TOP
 from cases import case
 from irig_tools import recordings, results
 from random_input import damages
@@ -370,8 +371,27 @@ def record_of_its_own():
         yield from in_folder(lambda: list(holds()))
 
 
+def timed():
+    """The lines of the how-to give each file of samples its times, also that of a packed recording."""
+    def holds():
+        blocks = re.findall(r"^```sh\n(.*?)^```", text_of(os.path.join(TOP, "docs", "HOWTO.md")), re.M | re.S)
+        lines = next(block for block in blocks if "table.csv" in block)
+        sound, names = damages.dump(recorded(), END), ("deep/a, b", "packed")
+        write_all({"recordings/deep/a, b.vcd": sound, "recordings/packed.vcd.gz": gzip.compress(sound.encode()), "recordings/junk.vcd": ""})
+        write_all({"samples/%s.txt" % name: "2500000 of %s\n" % name for name in names})
+        run("irig_mend", ["--apply-to", "repaired", "--report", "table.csv", "recordings"])
+        path = os.path.dirname(TIME) + os.pathsep + os.environ["PATH"]
+        ran = subprocess.run(["bash", "-c", lines], env={**os.environ, "PATH": path}, stderr=subprocess.PIPE, check=False)
+        yield same("what is said", ran.stderr.count(b"irig_time: 1 line, 1 with a time, 0 without"), len(names))
+        made = ["timed/%s.txt" % name for name in names]
+        yield same("the lines", [os.path.exists(path) and text_of(path).partition("\t")[2] for path in made],
+                   ["2500000 of %s\n" % name for name in names])
+
+    return in_folder(lambda: list(holds()))
+
+
 def cases(top):
     """Each part by its name."""
     parts = (ended, in_background, table, not_all_read, goes_on, packed, never_over, alone, several_expressions, looked_into,
-             one_line_each, record_of_its_own)
+             one_line_each, record_of_its_own, timed)
     return [case("folder: " + part.__name__, part) for part in parts]
