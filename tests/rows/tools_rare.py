@@ -168,6 +168,18 @@ def of_holes_with_a_set_clock():
                    [(20500000, 27200000, "670 elements without a pulse")])
 
 
+def of_several_elements():
+    """Three damaged elements one after the other are one line, which counts those without a pulse, if there are some."""
+    for name, seen in (("", "3 damaged elements"), (" and none", "3 damaged elements, 1 without a pulse")):
+        pulses = signal(6)
+        for place in (301, 302, 303):
+            pulses[place][1] = pulses[place][0] + 8000
+        if name:
+            del pulses[302]
+        found = [each.seen for part in looked_at(pulses).parts for each in damage._of_part(part)]
+        yield same("position identifiers" + name, found, [seen])
+
+
 def with_a_pause(kind, pause):
     """A recorder stops in frame 12 for that many seconds, and its clock with it."""
     frame, period = 100 * timecode.INTERVAL[kind], timecode.INTERVAL[kind] // 100
@@ -363,7 +375,7 @@ def cases():
     """Each kind by its name."""
     return [case("mend: rare: " + name, holds) for name, holds in (
         ("noise", of_noise), ("centuries", of_centuries), ("clocks that were set", of_set_clocks),
-        ("clocks that were set in a hole", of_holes_with_a_set_clock),
+        ("clocks that were set in a hole", of_holes_with_a_set_clock), ("several elements", of_several_elements),
         ("recorders that stopped", of_recorders_that_stopped), ("bases", of_bases),
         ("leap seconds", of_leap_seconds),
         ("steady control functions", of_steady_control), ("control functions with a rule", of_rules),

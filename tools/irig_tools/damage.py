@@ -132,7 +132,7 @@ def _of_places(faults: Faults, group: Sequence[PlaceNumber]) -> List[Damage]:
     elif empty == len(group):
         kind, seen = DamageKind.MISSING, "%d elements without a pulse" % empty
     else:
-        kind, seen = DamageKind.STRETCH, "%d damaged elements, %d without a pulse" % (len(group), empty)
+        kind, seen = DamageKind.STRETCH, "%d damaged elements" % len(group) + bool(empty) * (", %d without a pulse" % empty)
     end = faults.name(last) if frame_of(first) != frame_of(last) else str(last % ELEMENTS)
     return [_of_stretch(faults, group, "%s to %s" % (faults.name(first), end), seen, kind)]
 
