@@ -103,15 +103,15 @@ class Jumped(NamedTuple):
 
 
 class Times:
-    """The times that the cheapest explanation of a recording gives, of those that are sure."""
+    """The times that the cheapest explanation of a recording gives, of those that are sure by a margin."""
 
-    def __init__(self, pulses: Sequence[Pulse], kind: str, expression: int) -> None:
-        self.code = Code(kind, expression)
+    def __init__(self, pulses: Sequence[Pulse], kind: str, expression: int, least_margin: int = SURE) -> None:
+        self.code, self.least_margin = Code(kind, expression), least_margin
         self.prices = Prices(pulses, timecode.INTERVAL[kind], self.code.roles)
         self.rises = self.prices.rises
         tables = Tables(self.prices)
         self.claims = tables.explain()
-        self.margins = margins(tables, Given(self.prices, self.claims), SURE)
+        self.margins = margins(tables, Given(self.prices, self.claims), self.least_margin)
         self.cost = tables.cost
         self.stretches: List[List[Known]] = []
         self.frames: List[Frame] = []
@@ -205,7 +205,7 @@ class Times:
                                 for other, pay, rest in zip(sets[place + 1], pays[place + 1], after[place + 1])) for base in sets[place]]
         for frame, bases, one, other in zip(self.frames, sets, before, after):
             totals = sorted((first + last, number) for number, (first, last) in enumerate(zip(one, other)))
-            frame.near = {bases[number] for total, number in totals if total - totals[0][0] < SURE}
+            frame.near = {bases[number] for total, number in totals if total - totals[0][0] < self.least_margin}
             if len(totals) > 1 and len(frame.near) == 1:
                 frame.base = bases[totals[0][1]]
 
@@ -249,7 +249,7 @@ class Times:
     def _near_times(self, frame: Frame, got: Set[int]) -> None:
         """Adds the times less than a hundred frames from a known one that are not excluded by what the jump costs."""
         for base in heapq.nsmallest(2, got, key=lambda each: (frame.cost(self.code, each), each)):
-            most = frame.cost(self.code, base) + SURE - SET
+            most = frame.cost(self.code, base) + self.least_margin - SET
             steps = [by for by in range(-NEAR, NEAR + 1) if by and most > 0]
             costs = [(frame.cost(self.code, base + by) + logarithm(1 + abs(by)), by) for by in steps]
             got.update((base + by) % self.code.year for cost, by in heapq.nsmallest(2, costs) if cost < most)
@@ -280,7 +280,7 @@ class Times:
         if not 0 < place < len(line):
             return None
         one, other = line[place - 1:place + 1]
-        if min(self.margins[one.rise:other.rise]) < SURE or not self._straight(line, place):
+        if min(self.margins[one.rise:other.rise]) < self.least_margin or not self._straight(line, place):
             return None
         begin, end = self.rises[one.rise], self.rises[other.rise]
         element = one.element + (moment - begin) / (end - begin) * (other.element - one.element)
@@ -319,14 +319,14 @@ class Times:
                 frame.between = True
 
     def _where(self, one: Frame, other: Frame) -> Tuple[int, int]:
-        """From which element to which one the time can jump: at each that costs less than SURE more than the cheapest."""
+        """From which element to which one the time can jump: at each that costs less than the margin more than the cheapest."""
         assert one.base is not None and other.base is not None
         near = range(100 * self._reach(one, -1), 100 * self._reach(other, 1) + 100)
         costs = [sum(self._element_cost(one.stretch, element, other.base) for element in near)]
         for element in near:
             more = self._element_cost(one.stretch, element, one.base) - self._element_cost(one.stretch, element, other.base)
             costs.append(costs[-1] + more)
-        can = [near[0] + number for number, each in enumerate(costs) if each < min(costs) + SURE]
+        can = [near[0] + number for number, each in enumerate(costs) if each < min(costs) + self.least_margin]
         return can[0], can[-1]
 
     def _reach(self, frame: Frame, by: int) -> int:
