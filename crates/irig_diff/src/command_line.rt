@@ -1,20 +1,30 @@
 //! The command line, read by `clap`.
 
-ghost use Rattle.std.specs.Prelude.{◌≡◌, IfErr, IfOk, None, false, map, string_bytes};
-ghost use Rattle.clap.specs.Words.{HasMatchesOf, app_of, found_of, rule_of};
-ghost use Rattle.irig_diff.specs.Options.{IsCommand, IsFramesCommand, IsPartCommand};
-ghost use Rattle.irig_diff.specs.Options.{IsWiresCommand, the_command};
+ghost use Rattle.std.specs.Prelude.{◌≡◌, IfErr, IfOk, map, string_bytes};
+ghost use Rattle.clap.specs.Words.{HasMatchesOf, app_of, found_of};
+ghost use Rattle.irig_diff.specs.Options.{the_command};
 ghost use Rattle.irig_diff.specs.Settings.{AreValues, Reads};
-ghost use Rattle.irig_words.specs.Arguments.{option};
 ghost use Rattle.irig_words.specs.Errors.{MayRefuse, WantsMemory};
 ghost use Rattle.irig_words.specs.Usage.{Values};
 
 use crate::chosen::{OptionFault, Settings};
 use crate::options::settings_of;
 use crate::raw_values::RawValues;
-use clap::{Arg, ArgMatches, Command, Error};
-use irig_words::{UsageFault, flag_arg, matches_of, needed_arg, option_arg, windowed};
+use clap::{ArgMatches, Command, Error};
+use irig_words::{Argument, UsageFault, command_of, matches_of};
 use std::alloc::{AllocError, Global};
+
+static ARGUMENTS: [Argument<'static>; 9] = [
+    Argument::Valued("wire", "NAME"),
+    Argument::Valued("wire-after", "NAME"),
+    Argument::Valued("from", "TIME"),
+    Argument::Valued("to", "TIME"),
+    Argument::Flag("frames"),
+    Argument::Valued("format", "FORMAT"),
+    Argument::Valued("expression", "NUMBER"),
+    Argument::Needed("BEFORE"),
+    Argument::Needed("AFTER"),
+];
 
 /// What the words of a command line ask for, the program's name being the first.
 pub fn settings<'a>(
@@ -80,50 +90,7 @@ fn parse_words<'a>(alloc: Global, words: &'a [String]) -> Result<ArgMatches<'a>,
 
 /// The command line of the program.
 pub fn command<'a>(alloc: Global) -> Result<Command<'a>, AllocError>
-    ensures { IfOk result (λ c. IsCommand (app_of c)) }
+    ensures { IfOk result (λ c. app_of c ≡ the_command) }
 {
-    frames_command(alloc)?
-        .arg(needed_arg(alloc, "BEFORE", "the dump of the track before"))?
-        .arg(needed_arg(alloc, "AFTER", "the dump of the track after"))
-}
-
-/// The options of `part_command`, and those that say how frames are shown in comments.
-fn frames_command<'a>(alloc: Global) -> Result<Command<'a>, AllocError>
-    ensures { IfOk result (λ c. IsFramesCommand (app_of c)) }
-{
-    part_command(alloc)?
-        .arg(flag_arg(
-            alloc,
-            "frames",
-            "show in comments what the lines do to the frames",
-        ))?
-        .arg(option_arg(alloc, "format", "FORMAT", "A, B, E or G: B"))?
-        .arg(option_arg(alloc, "expression", "NUMBER", "of the format: 2"))
-}
-
-/// The options of `wires_command`, and those of the window.
-fn part_command<'a>(alloc: Global) -> Result<Command<'a>, AllocError>
-    ensures { IfOk result (λ c. IsPartCommand (app_of c)) }
-{
-    let Ok(wired) = wires_command(alloc) else {
-        return Err(AllocError);
-    };
-    windowed(alloc, wired)
-}
-
-/// The command with the options that name the wires: `--wire` and `--wire-after`.
-fn wires_command<'a>(alloc: Global) -> Result<Command<'a>, AllocError>
-    ensures { IfOk result (λ c. IsWiresCommand (app_of c)) }
-{
-    Command::new(alloc, "irig_diff")
-        .arg(wire_arg(alloc, "wire", "the wire of BEFORE"))?
-        .arg(wire_arg(alloc, "wire-after", "the wire of AFTER"))
-}
-
-/// An option `--name` whose value is the name of a wire.
-fn wire_arg<'a>(alloc: Global, name: &'a str, help: &'a str) -> Arg<'a>
-    ensures rule { rule_of result ≡ option name.entry.now None }
-    ensures local { result.global ≡ false }
-{
-    option_arg(alloc, name, "NAME", help)
+    command_of(alloc, "irig_diff", ARGUMENTS.as_slice())
 }

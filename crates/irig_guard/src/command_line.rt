@@ -1,9 +1,8 @@
 //! The command line, read by `clap`.
 
-ghost use Rattle.std.specs.Prelude.{◌≡◌, IfErr, IfOk, None, codes, false, map, string_bytes};
-ghost use Rattle.clap.specs.Words.{HasMatchesOf, app_of, found_of, rule_of};
-ghost use Rattle.irig_guard.specs.Options.{IsCommand, IsFormatCommand, IsJudgingCommand};
-ghost use Rattle.irig_guard.specs.Options.{IsPartCommand, beside, the_command};
+ghost use Rattle.std.specs.Prelude.{◌≡◌, IfErr, IfOk, codes, map, string_bytes};
+ghost use Rattle.clap.specs.Words.{HasMatchesOf, app_of, found_of};
+ghost use Rattle.irig_guard.specs.Options.{the_command};
 ghost use Rattle.irig_guard.specs.Settings.{AreValues, Reads, all_values, paths};
 ghost use Rattle.irig_words.specs.Errors.{MayRefuse, WantsMemory};
 ghost use Rattle.irig_words.specs.Usage.{Values};
@@ -11,9 +10,22 @@ ghost use Rattle.irig_words.specs.Usage.{Values};
 use crate::chosen::{OptionFault, Settings};
 use crate::options::settings_of;
 use crate::raw_values::RawValues;
-use clap::{Arg, ArgAction, ArgMatches, Command, Error};
-use irig_words::{UsageFault, flag_arg, matches_of, needed_arg, option_arg, windowed};
+use clap::{ArgMatches, Command, Error};
+use irig_words::{Argument, UsageFault, command_of, matches_of};
 use std::alloc::{AllocError, Global};
+
+static ARGUMENTS: [Argument<'static>; 10] = [
+    Argument::Valued("wire", "NAME"),
+    Argument::Valued("from", "TIME"),
+    Argument::Valued("to", "TIME"),
+    Argument::Valued("format", "FORMAT"),
+    Argument::Valued("expression", "NUMBER"),
+    Argument::Flag("moved"),
+    Argument::Repeated("with", "OTHER"),
+    Argument::Valued("out", "PATH"),
+    Argument::Flag("save"),
+    Argument::Needed("TRACK"),
+];
 
 /// What the words of a command line ask for, the program's name being the first.
 pub fn settings<'a>(
@@ -90,55 +102,7 @@ fn parse_words<'a>(alloc: Global, words: &'a [String]) -> Result<ArgMatches<'a>,
 
 /// The command line of the program.
 pub fn command<'a>(alloc: Global) -> Result<Command<'a>, AllocError>
-    ensures { IfOk result (λ c. IsCommand (app_of c)) }
+    ensures { IfOk result (λ c. app_of c ≡ the_command) }
 {
-    judging_command(alloc)?
-        .arg(option_arg(alloc, "out", "PATH", "where the mended track is written"))?
-        .arg(flag_arg(alloc, "save", "write the journal with the track"))?
-        .arg(needed_arg(alloc, "TRACK", "the dump; repairs come on standard input"))
-}
-
-/// The options of `format_command`, and those by what repairs are judged besides the recording.
-fn judging_command<'a>(alloc: Global) -> Result<Command<'a>, AllocError>
-    ensures { IfOk result (λ c. IsJudgingCommand (app_of c)) }
-{
-    format_command(alloc)?
-        .arg(flag_arg(
-            alloc,
-            "moved",
-            "frames that are fine may move, in their order",
-        ))?
-        .arg(with_arg(alloc))
-}
-
-/// The options of `part_command`, and those of the format of frames.
-fn format_command<'a>(alloc: Global) -> Result<Command<'a>, AllocError>
-    ensures { IfOk result (λ c. IsFormatCommand (app_of c)) }
-{
-    part_command(alloc)?
-        .arg(option_arg(alloc, "format", "FORMAT", "A, B, E or G: B"))?
-        .arg(option_arg(alloc, "expression", "NUMBER", "of the format: 2"))
-}
-
-/// The options that say which part of the dump is read.
-fn part_command<'a>(alloc: Global) -> Result<Command<'a>, AllocError>
-    ensures { IfOk result (λ c. IsPartCommand (app_of c)) }
-{
-    let wire = option_arg(alloc, "wire", "NAME", "the wire of the dump");
-    let Ok(wired) = Command::new(alloc, "irig_guard").arg(wire) else {
-        return Err(AllocError);
-    };
-    windowed(alloc, wired)
-}
-
-/// The option `--with`, which can come more than once.
-fn with_arg<'a>(alloc: Global) -> Arg<'a>
-    ensures rule { rule_of result ≡ beside }
-    ensures local { result.global ≡ false }
-{
-    Arg::new(alloc, "with")
-        .long("with")
-        .value_name("OTHER")
-        .help("another recording of the same code")
-        .action(ArgAction::Append)
+    command_of(alloc, "irig_guard", ARGUMENTS.as_slice())
 }

@@ -1,22 +1,30 @@
 //! The command line, read by `clap`.
 
-ghost use Rattle.std.specs.Prelude.{◌≡◌, IfErr, IfOk, false, codes, map, string_bytes};
-ghost use Rattle.clap.specs.Words.{Rule, app_of, found_of, rule_of, with_rule};
-ghost use Rattle.irig_settings.specs.Options.{IsChoice, IsCommand, IsFormatCommand, IsParsed};
-ghost use Rattle.irig_settings.specs.Options.{IsPartCommand, letters, part_command, track};
+ghost use Rattle.std.specs.Prelude.{IfErr, IfOk, map, string_bytes};
+ghost use Rattle.clap.specs.Words.{app_of, found_of};
+ghost use Rattle.irig_settings.specs.Options.{IsCommand, IsParsed};
 ghost use Rattle.irig_settings.specs.Errors.{MayRefuse};
 ghost use Rattle.irig_settings.specs.Settings.{Chooses, Reads};
 
 use crate::chosen::{OptionFault, Settings};
 use crate::part::window_of;
-use clap::{Arg, ArgMatches, Command, Error};
-use irig_words::{UsageFault, format_named, matches_of, needed_arg, option_arg, windowed};
+use clap::{ArgMatches, Command, Error};
+use irig_words::{Argument, UsageFault, command_of, format_named, matches_of};
 use std::alloc::{AllocError, Global};
 
-static LETTERS: [&str; 4] = ["A", "B", "E", "G"];
-
-/// Some formats permit fewer.
-static DIGITS: [&str; 8] = ["0", "1", "2", "3", "4", "5", "6", "7"];
+static ARGUMENTS: [Argument<'static>; 7] = [
+    Argument::Valued("wire", "NAME"),
+    Argument::Valued("from", "TIME"),
+    Argument::Valued("to", "TIME"),
+    Argument::Choice("format", "FORMAT", &["A", "B", "E", "G"]),
+    Argument::Choice(
+        "expression",
+        "NUMBER",
+        &["0", "1", "2", "3", "4", "5", "6", "7"],
+    ),
+    Argument::Valued("out", "PATH"),
+    Argument::Needed("TRACK"),
+];
 
 /// What the words of a command line ask for, the program's name being the first.
 pub fn settings<'a>(
@@ -67,77 +75,5 @@ fn parse_words<'a>(alloc: Global, words: &'a [String]) -> Result<ArgMatches<'a>,
 pub fn command<'a>(alloc: Global) -> Result<Command<'a>, AllocError>
     ensures { IfOk result (λ c. IsCommand (app_of c)) }
 {
-    format_command(alloc)?
-        .arg(option_arg(
-            alloc,
-            "out",
-            "PATH",
-            "what `write` and `save` write, if not TRACK",
-        ))?
-        .arg(track_arg(alloc))
-}
-
-/// The options of `letter_command`, and the digit of the expression.
-fn format_command<'a>(alloc: Global) -> Result<Command<'a>, AllocError>
-    ensures { IfOk result (λ c. IsFormatCommand (app_of c)) }
-{
-    let Ok(command) = letter_command(alloc) else {
-        return Err(AllocError);
-    };
-    command.arg(choice_arg(
-        alloc,
-        "expression",
-        "NUMBER",
-        "2, if not given",
-        DIGITS.as_slice(),
-    ))
-}
-
-/// The options of `part_command`, and the letter of the format: one that `format` accepts.
-fn letter_command<'a>(alloc: Global) -> Result<Command<'a>, AllocError>
-    ensures { IfOk result (λ c. (format : Rule) × IsChoice (codes "format") letters format
-        × (app_of c ≡ with_rule part_command format)) }
-{
-    let Ok(command) = part_command(alloc) else {
-        return Err(AllocError);
-    };
-    command.arg(choice_arg(
-        alloc,
-        "format",
-        "FORMAT",
-        "B, if not given",
-        LETTERS.as_slice(),
-    ))
-}
-
-/// The options that say which part of the dump is read: its wire and its window.
-fn part_command<'a>(alloc: Global) -> Result<Command<'a>, AllocError>
-    ensures { IfOk result (λ c. IsPartCommand (app_of c)) }
-{
-    let wire = option_arg(alloc, "wire", "NAME", "the wire of the dump");
-    let Ok(wired) = Command::new(alloc, "irig_ed").arg(wire) else {
-        return Err(AllocError);
-    };
-    windowed(alloc, wired)
-}
-
-/// An option `--name` with one of these values: `clap` refuses any other.
-fn choice_arg<'a>(
-    alloc: Global,
-    name: &'a str,
-    value: &'a str,
-    help: &'a str,
-    values: &'a [&'a str],
-) -> Arg<'a>
-    ensures rule { IsChoice name.entry.now (map (λ v. v.now) values.entry.now) (rule_of result) }
-    ensures local { result.global ≡ false }
-{
-    option_arg(alloc, name, value, help).value_parser(values)
-}
-
-fn track_arg<'a>(alloc: Global) -> Arg<'a>
-    ensures rule { rule_of result ≡ track }
-    ensures local { result.global ≡ false }
-{
-    needed_arg(alloc, "TRACK", "the dump; commands come on standard input")
+    command_of(alloc, "irig_ed", ARGUMENTS.as_slice())
 }

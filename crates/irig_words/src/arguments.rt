@@ -1,13 +1,96 @@
 //! The arguments of a command line, as `clap` takes them.
 
-ghost use Rattle.std.specs.Prelude.{◌≡◌, None, false};
-ghost use Rattle.clap.specs.Words.{rule_of};
-ghost use Rattle.irig_words.specs.Arguments.{flag, needed, option};
+ghost use Rattle.std.specs.Prelude.{◌≡◌, IfOk, None, Some, false, map};
+ghost use Rattle.clap.specs.Words.{app_of, rule_of};
+ghost use Rattle.clap.specs.declared.builder.value_parser.ValueParser.TheVariants.{Names};
+ghost use Rattle.irig_words.specs.Arguments.{command_with, flag, needed, option, repeated};
+ghost use Rattle.irig_words.specs.Arguments.{rule_for};
 
-use clap::{Arg, ArgAction};
-use std::alloc::Global;
+use clap::{Arg, ArgAction, Command};
+use std::alloc::{AllocError, Global};
 
-/// An option `--name` with a value, which its help calls `value`; it can be left out.
+/// An argument of a command line: its name, and what a mistake calls its value.
+#[derive(Clone, Copy)]
+pub enum Argument<'a> {
+    /// An option `--name` with a value; it can be left out.
+    Valued(&'a str, &'a str),
+    /// Such an option with one of these values: `clap` refuses any other.
+    Choice(&'a str, &'a str, &'a [&'a str]),
+    /// Such an option with any value, which can come more than once.
+    Repeated(&'a str, &'a str),
+    /// An option `--name` that has no value: if it is given, `clap` stores `true` for it.
+    Flag(&'a str),
+    /// A word by itself, without an option's name, that has to be there.
+    Needed(&'a str),
+}
+
+/// The command line of a program with these arguments, in their order.
+pub fn command_of<'a>(
+    alloc: Global,
+    program: &'a str,
+    arguments: &[Argument<'a>],
+) -> Result<Command<'a>, AllocError>
+    ensures { IfOk result (λ c. app_of c
+        ≡ command_with program.entry.now (map rule_for arguments.now)) }
+{
+    let mut command = Command::new(alloc, program);
+    for argument in arguments {
+        command = command.arg(arg_of(alloc, *argument))?;
+    }
+    Ok(command)
+}
+
+fn arg_of<'a>(alloc: Global, argument: Argument<'a>) -> Arg<'a>
+    ensures rule { rule_of result ≡ rule_for argument.entry }
+    ensures local { result.global ≡ false }
+{
+    match argument {
+        Argument::Valued(name, value) => valued(alloc, name, value),
+        Argument::Choice(name, value, values) => choice(alloc, name, value, values),
+        Argument::Repeated(name, value) => repeated(alloc, name, value),
+        Argument::Flag(name) => flag(alloc, name),
+        Argument::Needed(name) => needed(alloc, name),
+    }
+}
+
+fn valued<'a>(alloc: Global, name: &'a str, value: &'a str) -> Arg<'a>
+    ensures rule { rule_of result ≡ option name.entry.now None }
+    ensures local { result.global ≡ false }
+{
+    Arg::new(alloc, name)
+        .long(name)
+        .value_name(value)
+        .action(ArgAction::Set)
+}
+
+fn choice<'a>(alloc: Global, name: &'a str, value: &'a str, values: &'a [&'a str]) -> Arg<'a>
+    ensures rule { rule_of result ≡ option name.entry.now (Some (Names values.entry)) }
+    ensures local { result.global ≡ false }
+{
+    valued(alloc, name, value).value_parser(values)
+}
+
+fn repeated<'a>(alloc: Global, name: &'a str, value: &'a str) -> Arg<'a>
+    ensures rule { rule_of result ≡ repeated name.entry.now }
+    ensures local { result.global ≡ false }
+{
+    valued(alloc, name, value).action(ArgAction::Append)
+}
+
+fn flag<'a>(alloc: Global, name: &'a str) -> Arg<'a>
+    ensures rule { rule_of result ≡ flag name.entry.now }
+    ensures local { result.global ≡ false }
+{
+    Arg::new(alloc, name).long(name).action(ArgAction::SetTrue)
+}
+
+fn needed<'a>(alloc: Global, name: &'a str) -> Arg<'a>
+    ensures rule { rule_of result ≡ needed name.entry.now }
+    ensures local { result.global ≡ false }
+{
+    Arg::new(alloc, name).required(true).action(ArgAction::Set)
+}
+
 pub fn option_arg<'a>(alloc: Global, name: &'a str, value: &'a str, help: &'a str) -> Arg<'a>
     ensures rule { rule_of result ≡ option name.entry.now None }
     ensures local { result.global ≡ false }
@@ -19,7 +102,6 @@ pub fn option_arg<'a>(alloc: Global, name: &'a str, value: &'a str, help: &'a st
         .action(ArgAction::Set)
 }
 
-/// An option `--name` that has no value: if it is given, `clap` stores `true` for it.
 pub fn flag_arg<'a>(alloc: Global, name: &'a str, help: &'a str) -> Arg<'a>
     ensures rule { rule_of result ≡ flag name.entry.now }
     ensures local { result.global ≡ false }
@@ -30,7 +112,6 @@ pub fn flag_arg<'a>(alloc: Global, name: &'a str, help: &'a str) -> Arg<'a>
         .action(ArgAction::SetTrue)
 }
 
-/// A word by itself, without an option's name, that has to be there.
 pub fn needed_arg<'a>(alloc: Global, name: &'a str, help: &'a str) -> Arg<'a>
     ensures rule { rule_of result ≡ needed name.entry.now }
     ensures local { result.global ≡ false }
