@@ -1,6 +1,6 @@
 -- A script is read to its end, or up to a byte more than it may have.
 use Rattle.std.proofs.Common.{◌≡◌, ◌+◌, ◌<◌, ◌≤◌, ◌++◌, ℕ, List, [], Option, Some, None, Result, Ok, Err, length, take, refl, ap, ◌∙◌, subst, arith, length-take}
-use Rattle.std.specs.Prelude.{◌↔◌, IfSome, option_map}
+use Rattle.std.specs.Prelude.{◌↔◌, IfOk, IfSome, option_map}
 use Rattle.std.proofs.lemmas.List.{take_all}
 use Rattle.irig_script.specs.{Obey.Desk.Desk, Obey.Machine.Machine}
 use Rattle.irig_safety.specs.Terms.{TermsView}
@@ -28,6 +28,14 @@ all_read limit most known given old new e is same h few =
     read_all limit known old new e
     (subst (λ (n : ℕ). IfSome (option_map (take n) known) (λ xs. new ≡ old ++ xs)) is
     (subst (λ (k : Option (List ℕ)). IfSome (option_map (take most) k) (λ xs. new ≡ old ++ xs)) same h)) few
+
+-- so of what is handed on of it, if it is short
+pub kept_is_all : {T E : Type 0} (items : T → List ℕ) (limit : ℕ) (known : Option (List ℕ)) (read : List ℕ) (r : Result T E)
+    → (length read ≤ limit → IfSome known (λ all. read ≡ all)) → IfOk r (λ x. items x ≡ read) → IfOk r (λ x. length (items x) ≤ limit)
+    → IfOk r (λ x. IfSome known (λ all. items x ≡ all))
+kept_is_all items limit known read (Err e) h same short = tt
+kept_is_all items limit None read (Ok x) h same short = tt
+kept_is_all items limit (Some all) read (Ok x) h same short = same ∙ h (omega (arith, ap length same, short))
 
 -- and if it is, the script has more
 pub read_more : (limit : ℕ) (known : Option (List ℕ)) (old new : List ℕ) → old ≡ []

@@ -116,6 +116,16 @@ fn script_of<R: Read>(alloc: Global, script: &mut R) -> Result<Vec<u8>, GuardFau
     let Ok(_) = front.read_to_end(&mut bytes) else {
         return Err(GuardFault::ReadFailed);
     };
+    if_short(bytes)
+}
+
+/// A script, if it has no more bytes than it may.
+fn if_short(bytes: Vec<u8>) -> Result<Vec<u8>, GuardFault>
+    ensures same { IfOk result (λ kept. kept.items ≡ bytes.items) }
+    ensures short { IfOk result (λ kept. length kept.items ≤ script_limit) }
+    ensures long { OnErr result (script_limit < length bytes.items) }
+    ensures fault { IfErr result (λ fault. fault ≡ ScriptTooLong) }
+{
     if bytes.len() > SCRIPT_LIMIT {
         return Err(GuardFault::ScriptTooLong);
     }
