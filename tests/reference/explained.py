@@ -13,7 +13,7 @@ from reference.explanation import (
 
 SET = 176  # the time of the code jumps, and the logarithm of how many frames by: whole frames are lost, or a clock is set
 OTHER = 224  # a time of a frame that is no candidate
-LEAST_CONTRADICTS, CONTRADICTS = 16, 80  # an element of the time that looks like the other class: found between both
+CONTRADICTS = 80  # an element of the time that looks like the other class, at most
 KNOWN = 64  # a frame that costs no more has its time among the candidates
 ENOUGH = 640  # evidence of that much is looked at for a time
 WINDOWS = (32, 8, 1)  # frames
@@ -154,8 +154,7 @@ class Times:
         unused = [look for _, count, look in looks if self.code.roles[count % 100] == UNUSED]
         known = [one < zero for zero, one, _ in unused if abs(zero - one) > 16]
         bad = sum(known)
-        found = logarithm((len(known) + 20) * 3 // (3 * bad + 1))
-        return min(CONTRADICTS, max(LEAST_CONTRADICTS, found))
+        return min(CONTRADICTS, logarithm((len(known) + 20) * 3 // (3 * bad + 1)))
 
     # -- the line
 
