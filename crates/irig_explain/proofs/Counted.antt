@@ -5,7 +5,8 @@ use Rattle.std.proofs.lemmas.Bool.{ne_eqb}
 use Rattle.std.proofs.lemmas.List.Elements.{All-get_or}
 use Rattle.irig_explain.specs.declared.{prices.Prices.Prices, role.Role.Role}
 use Rattle.irig_explain.specs.Distances.{apart, gone, interval, rise_at}
-use Rattle.irig_explain.specs.Wires.{between, element, wire, wire_end}
+use Rattle.irig_explain.specs.declared.table.TheConstants.{FAR}
+use Rattle.irig_explain.specs.Wires.{between, element, passed, wire, wire_end}
 
 pub wire_one : (p : Prices) (role : Role) (r q count : ℕ) → count ≡ 1 → wire p role r q count ≡ element p role r (rise_at p q)
 wire_one p role r q count e = subst (λ n. wire p role r q n ≡ element p role r (rise_at p q)) (sym e) refl
@@ -39,3 +40,14 @@ far_many p r later q lt le there far one =
     let order = p.order later q (record { rise = 0; fall = 0 }) le there in
     let i = interval p r q in
     two_at_least ((2 * apart p r q + i) / (2 * i)) (many (apart p r q) i (omega (arith, a.0, b.0)) (omega (arith, a.1, b.1, order, far))) one
+
+-- between rises that are nine elements apart, with eight rises between, eight elements look like nothing at least
+nine : (apart interval : ℕ) → 0 < interval → 9 * interval ≤ apart → 9 ≤ (2 * apart + interval) / (2 * interval)
+nine apart interval some far = (le-div_iff_mul-le {k = 2 * interval} {x = 9} {y = 2 * apart + interval} (omega arith)).1 (omega (arith, far))
+
+pub far_wire : (p : Prices) (role : Role) (r q : ℕ) → 0 < interval p r q → 9 * interval p r q ≤ apart p r q → 8 ≤ passed p r q
+    → FAR ≤ wire p role r q (gone p r q)
+far_wire p role r q some far noise =
+    let n = nine (apart p r q) (interval p r q) some far in
+    let count : 9 ≤ gone p r q = omega (arith, n) in
+    omega (arith, count, noise, wire_more p role r q (gone p r q) (omega (arith, count)))

@@ -193,10 +193,10 @@ small_nodes price rises done nodes are few fits =
     small_cost rises.skip n.rise n.cost fits (omega arith) (omega (arith, h.costs.is.low.first, h.costs.exact))) nodes are.each
 
 -- a row with one more node
-pub row_more : (price : Price) (rises : Rises) (nodes : List Node) (r i : ℕ) (row : List Node) (w : Way) → IsRow price rises nodes r i row
-    → IsLeast price rises nodes r i w → IsRow price rises nodes r (i + 1) (row ++ record { cost = w.cost; rise = r; element = i } ∷ [])
-row_more price rises nodes r i row w is least =
-    let n : Node = record { cost = w.cost; rise = r; element = i } in
+pub row_more : (price : Price) (rises : Rises) (nodes : List Node) (r i : ℕ) (row : List Node) (low : ℕ) → IsRow price rises nodes r i row
+    → IsCost price rises nodes r i low → IsRow price rises nodes r (i + 1) (row ++ record { cost = low; rise = r; element = i } ∷ [])
+row_more price rises nodes r i row low is costs =
+    let n : Node = record { cost = low; rise = r; element = i } in
     let P : ℕ → Type 0 = λ e. Has (row ++ n ∷ []) e in record {
       each = All-push (IsOf price rises nodes r (i + 1)) row n
           (All-weaker (IsOf price rises nodes r i) (IsOf price rises nodes r (i + 1)) (λ m h. let lt = h.element in record {
@@ -204,7 +204,7 @@ row_more price rises nodes r i row w is least =
             element = omega arith;
             costs = h.costs;
           }) row is.each)
-          (record { rise = refl; element = omega arith; costs = record { way = w; is = least; exact = refl } });
+          (record { rise = refl; element = omega arith; costs = costs });
       all = λ e lt. below_more P i
           (λ e lt. let has = is.all e lt in record {
             node = has.node;

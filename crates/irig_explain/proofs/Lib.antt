@@ -6,8 +6,10 @@ pub mod Pruning
 pub mod Placing
 pub mod Cheapest
 pub mod Reaching
+pub mod Covered
 pub mod LeastWays
 pub mod Opens
+pub mod Lowering
 pub mod Growing
 pub mod EndsSoFar
 pub mod ReadBack

@@ -69,7 +69,7 @@ open_low price rises nodes near q f top opens low are le steps u m k at start en
 
 -- what is read past the end of the open nodes
 abbrev pub no_open : Open
-no_open = record { from = 0; reach = record { size = 0; turned = false; origin = 0; turn = 0 } }
+no_open = record { from = 0; reach = record { size = 0; turned = false; origin = 0; turn = 0; spare = 0 }; least = 0 }
 
 -- a way from a node by a step is backed by it
 pub comes : (price : Price) (rises : Rises) (nodes : List Node) (q f u : ℕ) (w : Way) (m : Node) → slice_get nodes u ≡ Some m

@@ -1,10 +1,11 @@
 -- Claims that are read back from a node.
-use Rattle.std.proofs.Common.{◌≡◌, ◌+◌, ◌*◌, ◌<◌, ◌≤◌, ◌++◌, ℕ, List, [], ◌∷◌, reverse, MatchOption, slice_get, Option, Some, None, ap, sym, subst, arith, refl}
+use Rattle.std.proofs.Common.{◌≡◌, ◌+◌, ◌*◌, ◌<◌, ◌≤◌, ◌++◌, ℕ, List, [], ◌∷◌, reverse, MatchOption, slice_get, Option, Some, None, ap, sym, subst, inl, inr, arith, refl}
 use Rattle.std.specs.List.{All}
 use Rattle.std.proofs.lemmas.List.{reverse-append}
 use Rattle.std.proofs.lemmas.List.Elements.{All-contains}
 use Rattle.std.proofs.lemmas.Option.{get_or_from_slice_get}
-use Rattle.irig_explain.specs.declared.{claim.Claim.Claim, claim.Kind.Kind, rises.Rises.Rises, ends.End.End, nodes.Node.Node, ways.Way.Way}
+use Rattle.irig_explain.specs.{Near.IsNear, Offers.IsLed}
+use Rattle.irig_explain.specs.declared.{near.Near.Near, claim.Claim.Claim, claim.Kind.Kind, rises.Rises.Rises, ends.End.End, nodes.Node.Node, ways.Way.Way}
 use Rattle.irig_explain.specs.Ends.{EndsAt, Follow, IsEnding, rises_left}
 use Rattle.irig_explain.specs.Explanation.{Price, AreClaims, cost_after}
 use Rattle.irig_explain.specs.Nodes.{AreNodes, ComesFrom, IsCost, IsLeast, IsLow, IsNode, claim_of}
@@ -76,6 +77,23 @@ read_more price rises nodes cs total v n w are at least follow =
     subst (λ xs. IsEnding price rises nodes xs total w.from) (sym (reversed cs (claim_as n w.kind)))
     (step_back price rises nodes n (reverse cs) total w w.from is are.each possible exact
     (same_least price rises nodes n.rise n.element n.cost w least is.costs) least.backed)
+
+-- a way to a node costs what it does
+pub led_from : (price : Price) (rises : Rises) (nodes : List Node) (near : Near) (q f cost : ℕ) (w : Way) (from : Option ℕ)
+    → IsNear rises.window nodes q near → MatchOption from (w.cost ≡ rises.skip * q) (λ u. ComesFrom price rises nodes q f w u) → w.cost ≡ cost
+    → IsLed price rises nodes near q f cost
+led_from price rises nodes near q f cost w None is b exact = inl (omega (arith, b, exact))
+led_from price rises nodes near q f cost w (Some u) is b exact =
+    let within = is.all u b.before b.at b.within.later b.within.near in
+    inr (record {
+      number = u;
+      node = b.before;
+      start = within.0;
+      end = within.1;
+      at = b.at;
+      kind = w.kind;
+      step = omega (arith, b.exact, exact);
+    })
 
 -- nodes come from those of earlier rises
 pub left_smaller : (price : Price) (rises : Rises) (nodes : List Node) (v : ℕ) (n : Node) (w : Way) (from : Option ℕ) → slice_get nodes v ≡ Some n

@@ -5,6 +5,7 @@ pub mod Near
 pub mod Offers
 pub mod Reached
 pub mod Opened
+pub mod Lows
 pub mod Classes
 pub mod Ends
 pub mod Sure

@@ -15,6 +15,20 @@ pub record Offered (price : Price) (m : Node) (u : ℕ) (to : Claim) (top : ℕ)
   pub origin : (w ≡ best)
       ⊎ ((w.from ≡ Some u) × (w.cost ≡ going price m to.rise to.element w.kind))
 
+-- a node near a rise, from which a step to an element costs no more than the top
+pub record Leads (price : Price) (nodes : List Node) (near : Near) (q f top : ℕ) : Type 0 where
+  pub number : ℕ
+  pub node : Node
+  pub start : near.start ≤ number
+  pub end : number < near.end
+  pub at : slice_get nodes number ≡ Some node
+  pub kind : Kind
+  pub step : going price node q f kind ≤ top
+
+-- the cheapest way to a claim costs no more
+abbrev pub IsLed : Price → Rises → List Node → Near → ℕ → ℕ → ℕ → Type 0
+IsLed price rises nodes near q f top = (rises.skip * q ≤ top) ⊎ Leads price nodes near q f top
+
 -- a node near a rise, from which a jump to an element costs no more than the top
 pub record Jumps (price : Price) (nodes : List Node) (near : Near) (q f top : ℕ) : Type 0 where
   pub number : ℕ

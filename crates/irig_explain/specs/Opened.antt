@@ -15,6 +15,7 @@ pub record IsOpen (price : Price) (rises : Rises) (nodes : List Node) (q : ℕ) 
   pub fits : IsReach o.reach
   pub reach : (f : ℕ) (k : Kind) → reaches o.reach f ≡ false
       → going price node q f Jump ≤ going price node q f k
+  pub least : (f : ℕ) (k : Kind) → o.least ≤ going price node q f k
 
 -- a node of some number is one of those
 pub record HasOpen (opens : List Open) (u : ℕ) : Type 0 where
@@ -37,6 +38,13 @@ pub record IsJump (price : Price) (rises : Rises) (nodes : List Node) (opens : L
       → w.cost ≤ going price m q f Jump
   pub backed : MatchOption w.from (w.cost ≡ rises.skip * q)
       (λ u. ComesFrom price rises nodes q f w u)
+
+-- a way is the jump from a node to the elements of a class
+pub record IsBy (price : Price) (class_of : ℕ → ℕ) (m : Node) (u q class : ℕ) (w : Way)
+    : Type 0 where
+  pub from : w.from ≡ Some u
+  pub kind : w.kind ≡ Jump
+  pub cost : (f : ℕ) → class_of f ≡ class → w.cost ≡ going price m q f Jump
 
 -- what is read where there is no way
 abbrev pub no_way : Way

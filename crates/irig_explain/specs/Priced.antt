@@ -51,6 +51,12 @@ on_by p role r q (Some count) = on p role r q count
 abbrev pub is_next : ℕ → ℕ → ℕ → Bool
 is_next size a n = a == 1 % size || a == n % size
 
+-- what a step of a kind costs more than what it passes over
+abbrev pub more_by : Kind → ℕ
+more_by Next = 0
+more_by Step = STEP
+more_by Jump = JUMP
+
 -- what a step of a kind costs
 abbrev pub price_by : Prices → ℕ → ℕ → ℕ → ℕ → Kind → ℕ
 price_by p r e q f Next =

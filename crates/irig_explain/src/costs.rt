@@ -5,7 +5,7 @@ ghost use Rattle.irig_explain.specs.Reached.{IsReach, reaches};
 ghost use Rattle.irig_explain.specs.declared.claim.Kind.{Kind};
 ghost use Rattle.irig_explain.specs.declared.claim.Kind.TheVariants.{Jump};
 
-use crate::claim::Claim;
+use crate::claim::{Claim, Kind};
 use crate::reach::Reach;
 
 /// The costs of steps. `price` takes the rise and the element of a claim, those of the next one,
@@ -21,9 +21,14 @@ pub trait Costs {
     fn price(&self, from: Claim, to: Claim) -> u32
         ensures { result ≡ price self.now from.rise from.element to.rise to.element to.kind };
 
-    /// What each step between claims of two rises costs at least. The more, the fewer are priced.
-    fn least(&self, rise: usize, later: usize) -> u32
+    /// What each step between claims of two rises costs at least. The more, the fewer are priced;
+    /// no more than `enough` is asked for.
+    fn least(&self, rise: usize, later: usize, enough: u64) -> u32
         ensures { (e f : ℕ) (k : Kind) → result ≤ price self.now rise e later f k };
+
+    /// The same of the steps of a kind.
+    fn least_by(&self, rise: usize, later: usize, kind: Kind) -> u32
+        ensures { (e f : ℕ) → result ≤ price self.now rise e later f kind };
 
     /// The class of an element from which a jump leads.
     fn from_class(&self, element: usize) -> usize

@@ -1,6 +1,6 @@
 //! How far rises are apart, and how many elements that is.
 
-ghost use Rattle.std.specs.Prelude.{◌≡◌, ◌+◌, ◌*◌, ◌^◌, ◌<◌, ◌≤◌, false, length};
+ghost use Rattle.std.specs.Prelude.{ℕ, ◌≡◌, ◌+◌, ◌*◌, ◌^◌, ◌<◌, ◌≤◌, ◌⊎◌, false, length, true};
 ghost use Rattle.irig_explain.specs.Distances.{apart, gone, interval, interval_at, rise_at};
 ghost use Rattle.irig_explain.specs.Distances.{far, is_off, late};
 ghost use Rattle.irig_explain.specs.Priced.{least, on, tremble};
@@ -96,6 +96,23 @@ impl<'a> Prices<'a> {
         9 * interval < 20 * off && 72 < self.late(off, count)
     }
 
+    /// How many elements more, or fewer, than the clock says can lie between two rises.
+    pub(crate) fn spare(&self, rise: usize, later: usize, said: u64) -> u64
+        requires rise { rise < length self.now.pulses.now }
+        requires later { later < length self.now.pulses.now }
+        requires said { said ≡ gone self.now rise later }
+        requires few { said ≤ 2 ^ 49 }
+        ensures few { result ≤ 5 }
+        ensures near { (n : ℕ) → 0 < n → (n ≡ said → ⊥) → n ≤ said + 5 → (result ≡ 5)
+            ⊎ (is_off self.now (interval self.now rise later) (far self.now rise later n) n
+            ≡ true) }
+    {
+        if 72 < self.late(self.interval(rise, later) / 2, said + 5) {
+            return 0;
+        }
+        5
+    }
+
     /// What a late rise costs after a step in time or a jump.
     fn tremble(&self, interval: u64, off: u64, count: u64) -> u64
         requires { interval < 2 ^ 27 }
@@ -122,10 +139,12 @@ impl<'a> Prices<'a> {
         self.wire(role, rise, later, gone) + tremble
     }
 
-    /// What a step over that many elements costs.
-    pub(crate) fn on(&self, role: Role, rise: usize, later: usize, count: u64) -> u64
+    /// What a step over that many elements costs; the clock can say another number.
+    pub(crate) fn on(&self, role: Role, rise: usize, later: usize, count: u64, said: u64) -> u64
         requires order { rise < later }
         requires later { later < length self.now.pulses.now }
+        requires said { said ≡ gone self.now rise later }
+        requires small { said ≤ 2 ^ 49 }
         requires some { 0 < count }
         requires few { count ≤ gone self.now rise later + 5 }
         ensures exact { result ≡ on self.now role rise later count }
@@ -136,7 +155,10 @@ impl<'a> Prices<'a> {
             return CANNOT;
         }
         let late = self.late(off, count).min(OFF_LINE);
-        let least = self.least(role, rise, later);
-        (self.wire(role, rise, later, count) + late).max(least)
+        let cost = self.wire(role, rise, later, count) + late;
+        if count == said {
+            return cost;
+        }
+        cost.max(self.least(role, rise, later))
     }
 }

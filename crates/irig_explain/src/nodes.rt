@@ -7,10 +7,9 @@ ghost use Rattle.irig_explain.specs.Rows.{AreKept, IsBeaten, IsLeastOf, IsMost, 
 
 use crate::claim::{Claim, Kind};
 use crate::costs::Costs;
+use crate::lows::lows;
 use crate::near::nodes_near;
-use crate::opening::{open_nodes, top_of};
 use crate::rises::Rises;
-use crate::steps::{cheapest_step, jump_ways};
 use std::alloc::{AllocError, Global};
 
 /// A claim, with the least cost of all ways to it.
@@ -68,22 +67,12 @@ fn row<C: Costs>(
         row.items) }
 {
     let near = nodes_near(rises.window, nodes, rise);
-    let top = top_of(costs, rises, nodes, near, rise);
-    let found = open_nodes(alloc, costs, rises, nodes, near, rise, top)?;
-    let opens = found.as_slice();
-    let ways = jump_ways(alloc, costs, rises, nodes, opens, rise)?;
-    let jumps = ways.as_slice();
-    let mut row = Vec::new(alloc);
+    let found = lows(alloc, costs, rises, nodes, near, rise)?;
+    let lows = found.as_slice();
+    let mut row = Vec::with_capacity(alloc, rises.states as usize)?;
     for element in 0..rises.states {
-        let class = costs.to_class(element as usize);
-        let to = Claim {
-            rise,
-            element: element as usize,
-            kind: Kind::Next,
-        };
-        let way = cheapest_step(costs, rises, nodes, near, top, opens, to, jumps[class]);
         row.push(Node {
-            cost: way.cost,
+            cost: lows[element as usize],
             rise: rise as u32,
             element,
         })?;

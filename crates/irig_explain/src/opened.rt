@@ -7,4 +7,6 @@ use crate::reach::Reach;
 pub struct Open {
     pub from: usize,
     pub reach: Reach,
+    /// What it and a step from it cost at least.
+    pub least: u64,
 }

@@ -59,28 +59,36 @@ pub fn open_nodes<C: Costs>(
 {
     let mut opens = Vec::new(alloc);
     for from in near.start..near.end {
-        if can_lead(costs, nodes[from], rise, top) {
-            opens.push(opened(costs, nodes[from], from, rise))?;
+        let least = least_from(costs, nodes[from], rise, top);
+        if least <= top {
+            opens.push(opened(costs, nodes[from], from, rise, least))?;
         }
     }
     Ok(opens)
 }
 
-/// Whether a step from a node to a rise can be cheap enough.
-pub(crate) fn can_lead<C: Costs>(costs: &C, node: Node, rise: usize, top: u64) -> bool
+/// What a node and a step from it to a rise cost at least. The least above a top is enough.
+pub(crate) fn least_from<C: Costs>(costs: &C, node: Node, rise: usize, top: u64) -> u64
     requires { node.cost < 2 ^ 63 }
-    ensures { result ≡ false → (f : ℕ) (k : Kind) → top < going (C.price costs.now) node rise f k }
+    ensures { (f : ℕ) (k : Kind) → result ≤ going (C.price costs.now) node rise f k }
 {
-    node.cost + u64::from(costs.least(node.rise as usize, rise)) <= top
+    if top < node.cost {
+        return node.cost;
+    }
+    let enough = (top - node.cost).saturating_add(1);
+    node.cost + u64::from(costs.least(node.rise as usize, rise, enough))
 }
 
-/// A node, with what a step from it to a rise reaches.
-fn opened<C: Costs>(costs: &C, node: Node, from: usize, rise: usize) -> Open
+/// A node, with what a step from it to a rise reaches, and costs at least.
+fn opened<C: Costs>(costs: &C, node: Node, from: usize, rise: usize, least: u64) -> Open
+    requires { (f : ℕ) (k : Kind) → least ≤ going (C.price costs.now) node rise f k }
     ensures from { result.from ≡ from }
     ensures fits { IsReach result.reach }
     ensures reach { (f : ℕ) (k : Kind) → reaches result.reach f ≡ false
         → going (C.price costs.now) node rise f Jump ≤ going (C.price costs.now) node rise f k }
+    ensures least { (f : ℕ) (k : Kind) → result.least
+        ≤ going (C.price costs.now) node rise f k }
 {
     let reach = costs.reach_from(node.claim(Kind::Next), rise);
-    Open { from, reach }
+    Open { from, reach, least }
 }

@@ -2,9 +2,9 @@
 
 ghost use Rattle.std.specs.Prelude.{ℕ, ◌≡◌, ◌+◌, ◌^◌, ◌<◌, ◌≤◌, IfSome, length};
 ghost use Rattle.irig_explain.specs.Distances.{gone};
-ghost use Rattle.irig_explain.specs.Priced.{ahead, counted, is_next, least, on_by, price};
+ghost use Rattle.irig_explain.specs.Priced.{ahead, counted, is_next, least, more_by, on_by, price};
 ghost use Rattle.irig_explain.specs.Priced.{price_by, role_at};
-ghost use Rattle.irig_explain.specs.{Classes.class_at, Classes.class_of, Wires.wire};
+ghost use Rattle.irig_explain.specs.{Classes.class_at, Classes.class_of};
 ghost use Rattle.irig_explain.specs.declared.role.Role.{Role};
 ghost use Rattle.irig_explain.specs.declared.claim.Kind.TheVariants.{Jump};
 
@@ -59,11 +59,18 @@ impl<'a> Costs for Prices<'a> {
         self.price_by(from, to).min(CANNOT) as u32
     }
 
-    fn least(&self, rise: usize, later: usize) -> u32 {
+    fn least(&self, rise: usize, later: usize, enough: u64) -> u32 {
         if later <= rise || self.pulses.len() <= later {
             return 0;
         }
-        self.passing(rise, later).min(CANNOT) as u32
+        self.passing_up_to(rise, later, enough).min(CANNOT) as u32
+    }
+
+    fn least_by(&self, rise: usize, later: usize, kind: Kind) -> u32 {
+        if later <= rise || self.pulses.len() <= later {
+            return 0;
+        }
+        (more_by(kind) + self.passing(rise, later)).min(CANNOT) as u32
     }
 
     fn from_class(&self, element: usize) -> usize {
@@ -99,11 +106,13 @@ impl<'a> Costs for Prices<'a> {
             return Reach::all();
         }
         let size = self.roles.len() as u64;
+        let gone = self.gone(from.rise, later);
         Reach {
             size,
             turned: false,
             origin: size - from.element as u64 % size,
-            turn: size - self.gone(from.rise, later) % size,
+            turn: size - gone % size,
+            spare: self.spare(from.rise, later, gone),
         }
     }
 
@@ -112,11 +121,13 @@ impl<'a> Costs for Prices<'a> {
             return Reach::all();
         }
         let size = self.roles.len() as u64;
+        let gone = self.gone(rise, to.rise);
         Reach {
             size,
             turned: true,
             origin: size + to.element as u64 % size,
-            turn: size - self.gone(rise, to.rise) % size,
+            turn: size - gone % size,
+            spare: self.spare(rise, to.rise, gone),
         }
     }
 
@@ -129,6 +140,18 @@ impl<'a> Costs for Prices<'a> {
 
     fn most_to(&self, _rise: usize, _this: usize, _class: usize) -> u32 {
         JUMP as u32
+    }
+}
+
+/// What a step of a kind costs more than what it passes over.
+fn more_by(kind: Kind) -> u64
+    ensures exact { result ≡ more_by kind }
+    ensures small { result ≤ 256 }
+{
+    match kind {
+        Kind::Next => 0,
+        Kind::Step => STEP,
+        Kind::Jump => JUMP,
     }
 }
 
@@ -165,22 +188,10 @@ impl<'a> Prices<'a> {
         (JUMP + self.least(role, rise, later)).min(CANNOT) as u32
     }
 
-    /// What is passed over between two rises costs at least, as the clock counts it.
-    fn passing(&self, rise: usize, later: usize) -> u64
-        requires order { rise < later }
-        requires later { later < length self.now.pulses.now }
-        ensures { (role : Role) → result
-            ≤ wire self.now role rise later (gone self.now rise later) }
-    {
-        let gone = self.gone(rise, later);
-        if gone == 1 {
-            return 0;
-        }
-        self.between(rise, later, gone)
-    }
-
-    /// What a step costs that goes on over some elements.
-    fn on_by(&self, role: Role, rise: usize, later: usize, count: Option<u64>) -> u64
+    /// What a step costs that goes on over some elements; the clock can say another number.
+    fn on_by(&self, role: Role, rise: usize, later: usize, count: Option<u64>, said: u64) -> u64
+        requires said { said ≡ gone self.now rise later }
+        requires small { said ≤ 2 ^ 49 }
         requires order { rise < later }
         requires later { later < length self.now.pulses.now }
         requires near { IfSome count (λ n. (0 < n) × (n ≤ gone self.now rise later + 5)) }
@@ -188,7 +199,7 @@ impl<'a> Prices<'a> {
         ensures small { result < 2 ^ 60 }
     {
         match count {
-            Some(count) => self.on(role, rise, later, count),
+            Some(count) => self.on(role, rise, later, count, said),
             None => CANNOT,
         }
     }
@@ -205,7 +216,7 @@ impl<'a> Prices<'a> {
         let size = self.roles.len() as u64;
         let ahead = ahead(size, from.element as u64, to.element as u64);
         match to.kind {
-            Kind::Next => self.on_by(role, from.rise, to.rise, counted(size, ahead, gone)),
+            Kind::Next => self.on_by(role, from.rise, to.rise, counted(size, ahead, gone), gone),
             Kind::Step if is_next(size, ahead, gone) => {
                 STEP + self.least(role, from.rise, to.rise)
             }

@@ -1,7 +1,7 @@
 //! The elements to which a step goes on.
 
-ghost use Rattle.std.specs.Prelude.{◌≡◌};
-ghost use Rattle.irig_explain.specs.Reached.{IsReach, reaches, round};
+ghost use Rattle.std.specs.Prelude.{◌≡◌, ◌^◌, ◌≤◌};
+ghost use Rattle.irig_explain.specs.Reached.{IsReach, ahead_at, count, led, reached, round};
 
 /// The elements to which a step goes on from a claim, or from which it leads to one. They count
 /// round a frame, so what is said here is right but for whole frames.
@@ -15,6 +15,8 @@ pub struct Reach {
     pub origin: u64,
     /// How many elements the clock says less, in whole frames.
     pub turn: u64,
+    /// How many elements more, or fewer, than the clock says a step can go over.
+    pub spare: u64,
 }
 
 impl Reach {
@@ -28,24 +30,56 @@ impl Reach {
             turned: false,
             origin: 0,
             turn: 0,
+            spare: 0,
         }
     }
 
-    /// Whether a step can be cheaper than a jump there.
-    pub fn has(self, element: u64) -> bool
-        requires { IsReach self }
-        ensures { result ≡ reaches self element }
+    /// How many numbers its elements have, of the first ones.
+    pub fn count(self, states: usize) -> usize
+        requires fits { IsReach self }
+        requires few { states ≤ 2 ^ 32 }
+        ensures { result ≡ count self states }
     {
-        if self.size <= element {
-            return true;
+        2 * self.spare as usize + 2 + states.saturating_sub(self.size as usize)
+    }
+
+    /// The element of a number: those near what the clock says, one further, and all that no frame
+    /// has.
+    pub fn element(self, number: usize) -> usize
+        requires fits { IsReach self }
+        requires few { number ≤ 2 ^ 33 }
+        ensures { result ≡ reached self number }
+    {
+        let near = 2 * self.spare as usize + 1;
+        if near < number {
+            return self.size as usize + (number - near - 1);
         }
-        let ahead = if self.turned {
-            round(self.size, self.origin.saturating_sub(element))
-        } else {
-            round(self.size, self.origin + element)
-        };
-        let more = round(self.size, ahead + self.turn);
-        more < 6 || self.size < more + 6 || ahead == 1 % self.size
+        if number == near {
+            return self.led(if self.size <= 1 { 0 } else { 1 }) as usize;
+        }
+        self.led(self.ahead_at(number as u64)) as usize
+    }
+
+    /// How many elements a step goes on by a number.
+    fn ahead_at(self, number: u64) -> u64
+        requires fits { IsReach self }
+        requires few { number ≤ 2 ^ 33 }
+        ensures { result ≡ ahead_at self number }
+    {
+        let more = round(self.size, (number + self.size).saturating_sub(self.spare));
+        round(self.size, more + (self.size - self.turn))
+    }
+
+    /// The element to which a step goes on that many elements, or from which it does.
+    fn led(self, ahead: u64) -> u64
+        requires fits { IsReach self }
+        requires few { ahead ≤ 2 ^ 34 }
+        ensures { result ≡ led self ahead }
+    {
+        if self.turned {
+            return round(self.size, self.origin.saturating_sub(ahead));
+        }
+        round(self.size, ahead + self.size.saturating_sub(self.origin))
     }
 }
 

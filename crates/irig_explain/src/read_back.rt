@@ -34,7 +34,7 @@ pub fn read_back<C: Costs>(
     'back: while let Some(number) = at {
         let to = nodes[number].claim(Kind::Next);
         let near = nodes_near(rises.window, nodes, to.rise);
-        let way = cheapest(costs, rises, nodes, near, to);
+        let way = cheapest(costs, rises, nodes, near, to, nodes[number].cost);
         claims.push(nodes[number].claim(way.kind))?;
         at = way.from;
     }

@@ -51,8 +51,14 @@ impl<'a, C: Costs> Costs for Turned<'a, C> {
             .price(self.claim(to, to.kind), self.claim(from, to.kind))
     }
 
-    fn least(&self, rise: usize, later: usize) -> u32 {
-        self.costs.least(self.turned(later), self.turned(rise))
+    fn least(&self, rise: usize, later: usize, enough: u64) -> u32 {
+        self.costs
+            .least(self.turned(later), self.turned(rise), enough)
+    }
+
+    fn least_by(&self, rise: usize, later: usize, kind: Kind) -> u32 {
+        self.costs
+            .least_by(self.turned(later), self.turned(rise), kind)
     }
 
     fn from_class(&self, element: usize) -> usize {

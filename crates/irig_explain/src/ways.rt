@@ -1,15 +1,15 @@
 //! The cheapest way to a claim.
 
-ghost use Rattle.std.specs.Prelude.{ℕ, ◌≡◌, ◌+◌, ◌*◌, ◌^◌, ◌<◌, ◌≤◌, ◌⊎◌, All, None, true};
+ghost use Rattle.std.specs.Prelude.{◌≡◌, ◌+◌, ◌*◌, ◌^◌, ◌<◌, ◌≤◌, ◌⊎◌, All, None};
 ghost use Rattle.irig_explain.specs.Near.{IsNear};
 ghost use Rattle.irig_explain.specs.Nodes.{AreNodes, IsCost, IsLeast, going};
-ghost use Rattle.irig_explain.specs.Offers.{IsTop, Offered};
-ghost use Rattle.irig_explain.specs.declared.claim.Kind.{Kind};
+ghost use Rattle.irig_explain.specs.Offers.{IsLed, Offered};
 
 use crate::claim::{Claim, Kind};
 use crate::costs::Costs;
 use crate::near::Near;
 use crate::nodes::Node;
+use crate::opening::least_from;
 use crate::rises::Rises;
 
 /// A way to a claim.
@@ -38,15 +38,23 @@ impl Way {
     }
 }
 
-/// The cheapest way to a claim. It is the first one, or a step leads to it from a node near it.
-pub fn cheapest<C: Costs>(costs: &C, rises: Rises, nodes: &[Node], near: Near, to: Claim) -> Way
+/// The cheapest way to a claim, if it costs no more than the top. It is the first one, or a step
+/// leads to it from a node near it.
+pub fn cheapest<C: Costs>(
+    costs: &C,
+    rises: Rises,
+    nodes: &[Node],
+    near: Near,
+    to: Claim,
+    top: u64,
+) -> Way
     requires few { to.rise < 2 ^ 31 }
     requires small { All (λ n. n.cost < 2 ^ 63) nodes.now }
     requires near { IsNear rises.window nodes.now to.rise near }
+    requires top { IsLed (C.price costs.now) rises nodes.now near to.rise to.element top }
     ensures { IsLeast (C.price costs.now) rises nodes.now to.rise to.element result }
 {
     let mut best = Way::first(rises, to.rise);
-    let top = top_to(costs, rises, nodes, near, to);
     for from in near.start..near.end {
         best = offer(costs, nodes[from], from, to, top, best);
     }
@@ -58,7 +66,7 @@ fn top_to<C: Costs>(costs: &C, rises: Rises, nodes: &[Node], near: Near, to: Cla
     requires few { to.rise < 2 ^ 31 }
     requires small { All (λ n. n.cost < 2 ^ 63) nodes.now }
     requires near { IsNear rises.window nodes.now to.rise near }
-    ensures { IsTop (C.price costs.now) rises nodes.now near to.rise to.element result }
+    ensures { IsLed (C.price costs.now) rises nodes.now near to.rise to.element result }
 {
     if near.end <= near.start {
         return rises.skipped(to.rise);
@@ -76,7 +84,8 @@ pub fn cost_of<C: Costs>(costs: &C, rises: Rises, nodes: &[Node], near: Near, to
     ensures cost { IsCost (C.price costs.now) rises nodes.now to.rise to.element result }
     ensures small { result < 2 ^ 62 }
 {
-    cheapest(costs, rises, nodes, near, to).cost
+    let top = top_to(costs, rises, nodes, near, to);
+    cheapest(costs, rises, nodes, near, to, top).cost
 }
 
 /// The cheapest of a way to a claim and those from one node, of each kind, up to the top.
@@ -84,21 +93,13 @@ fn offer<C: Costs>(costs: &C, node: Node, from: usize, to: Claim, top: u64, best
     requires { node.cost < 2 ^ 63 }
     ensures { Offered (C.price costs.now) node from to top best result }
 {
-    if is_above(costs, node, to.rise, top) {
+    if top < least_from(costs, node, to.rise, top) {
         return best;
     }
     let next = come(costs, node, from, to, Kind::Next);
     let step = come(costs, node, from, to, Kind::Step);
     let jump = come(costs, node, from, to, Kind::Jump);
     cheaper(cheaper(cheaper(best, next), step), jump)
-}
-
-/// Whether no step from a node to a rise is cheap enough.
-fn is_above<C: Costs>(costs: &C, node: Node, rise: usize, top: u64) -> bool
-    requires { node.cost < 2 ^ 63 }
-    ensures { result ≡ true → (f : ℕ) (k : Kind) → top < going (C.price costs.now) node rise f k }
-{
-    top < node.cost + u64::from(costs.least(node.rise as usize, rise))
 }
 
 /// The way to a claim from one node.

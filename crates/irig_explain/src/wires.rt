@@ -4,7 +4,7 @@ ghost use Rattle.std.specs.Prelude.{ℕ, ◌≡◌, ◌+◌, ◌^◌, ◌<◌, �
 ghost use Rattle.std.specs.List.{count_by};
 ghost use Rattle.std.specs.List.Sorted.{IsNonDecreasingBy};
 ghost use Rattle.irig_explain.specs.Looks.{Fits, IsTimely};
-ghost use Rattle.irig_explain.specs.Distances.{gone};
+ghost use Rattle.irig_explain.specs.Distances.{gone, rise_at};
 ghost use Rattle.irig_explain.specs.Wires.{between, element, near, passed};
 ghost use Rattle.irig_explain.specs.Wires.{stretch, wire, wire_end};
 
@@ -79,7 +79,7 @@ impl<'a> Prices<'a> {
     }
 
     /// How many rises are passed over between the wire of an element and the next claimed rise.
-    fn passed(&self, rise: usize, later: usize) -> u64
+    pub(crate) fn passed(&self, rise: usize, later: usize) -> u64
         requires order { rise < later }
         requires later { later < length self.now.pulses.now }
         ensures exact { result ≡ passed self.now rise later }
@@ -123,8 +123,11 @@ impl<'a> Prices<'a> {
         ensures exact { element self.now this rise end ≤ element self.now other rise end + result }
         ensures small { result ≤ 128 }
     {
-        self.element(this, rise, end)
-            .saturating_sub(self.element(other, rise, end))
+        let own = self.element(this, rise, end);
+        if own == 0 {
+            return 0;
+        }
+        own.saturating_sub(self.element(other, rise, end))
     }
 
     /// How much more an element costs in one role than in another, at most, whatever comes after.
@@ -140,8 +143,23 @@ impl<'a> Prices<'a> {
             if 3 * self.clock.longest <= 2 * self.apart(rise, later) {
                 return most;
             }
-            most = most.max(self.dearer_to(rise, this, other, self.rise_at(later)));
+            most = most.max(self.dearer_at(rise, later, this, other));
         }
         most
+    }
+
+    /// The same up to a later rise, if that is the next element by the clock.
+    fn dearer_at(&self, rise: usize, later: usize, this: Role, other: Role) -> u64
+        requires rise { rise < length self.now.pulses.now }
+        requires later { later < length self.now.pulses.now }
+        ensures exact { gone self.now rise later ≡ 1
+            → element self.now this rise (rise_at self.now later)
+            ≤ element self.now other rise (rise_at self.now later) + result }
+        ensures small { result ≤ 128 }
+    {
+        if self.gone(rise, later) != 1 {
+            return 0;
+        }
+        self.dearer_to(rise, this, other, self.rise_at(later))
     }
 }

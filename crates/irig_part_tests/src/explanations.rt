@@ -47,8 +47,12 @@ impl Costs for Looks {
     }
 
     // A step to the next rise and element costs nothing.
-    fn least(&self, _rise: usize, _later: usize) -> u32 {
+    fn least(&self, _rise: usize, _later: usize, _enough: u64) -> u32 {
         0
+    }
+
+    fn least_by(&self, _rise: usize, _later: usize, kind: Kind) -> u32 {
+        price_of(kind, true)
     }
 
     fn from_class(&self, _element: usize) -> usize {

@@ -2,7 +2,7 @@ use Rattle.std.proofs.Common.{◌<◌, length, get_or, arith}
 use Rattle.std.proofs.lemmas.Option.{slice_get-get_or}
 use Rattle.irig_explain.proofs.{Members.no_node, Opens.closed_more, Opens.opened_more}
 use Rattle.irig_explain.proofs.opening.open_nodes.Goals as goal
-use Rattle.irig_explain.proofs.opening.open_nodes.Goals.{then-can_lead+in_ok-push, else-can_lead}
+use Rattle.irig_explain.proofs.opening.open_nodes.Goals.{then-least-top+in_ok-push, else-least-top}
 
 pub loop-from-init : goal.loop-from-init
 loop-from-init g c = rw c.new-opens.ensures.items (record {
@@ -16,8 +16,8 @@ loop-from-preserved g c =
     let start = c.args.near.start in let q = c.args.rise in let top = c.args.top in let old = c.loop-from.opens.items in
     let lt : i < length nodes = let end = c.requires.near.below in omega arith in
     let at = slice_get-get_or nodes i no_node lt in
-    elim c.if-can_lead.branch [
-      | then-can_lead+in_ok-push w ↦
+    elim c.if-least-top.branch [
+      | then-least-top+in_ok-push w ↦
           rw (w.opens-is, w.in_ok-push.ensures.items)
           (opened_more price c.args.rises nodes q start i top old _ c.loop-from.invariant
           (record {
@@ -26,8 +26,10 @@ loop-from-preserved g c =
             within = record { later = c.requires.near.later i _ at (omega arith); near = c.requires.near.near i _ at (omega arith) };
             fits = w.opened.ensures.fits;
             reach = w.opened.ensures.reach;
+            least = w.opened.ensures.least;
           })
           w.opened.ensures.from)
-      | else-can_lead w ↦
-          rw w.opens-is (closed_more price c.args.rises nodes q start i top old c.loop-from.invariant (c.can_lead.ensures w.if-can_lead.false))
+      | else-least-top w ↦
+          rw w.opens-is (closed_more price c.args.rises nodes q start i top old c.loop-from.invariant
+          (λ f k. omega (arith, w.if-least-top.false, c.least_from-least.ensures f k)))
     ]

@@ -1,14 +1,25 @@
 use Rattle.std.proofs.Common.{get_or, reverse, subst}
 use Rattle.std.proofs.lemmas.Option.{slice_get-get_or, slice_get_within}
-use Rattle.irig_explain.specs.Ends.{IsEnding}
+use Rattle.std.proofs.lemmas.List.Elements.{All-get_or}
+use Rattle.irig_explain.specs.{Ends.IsEnding, Nodes.IsNode}
 use Rattle.irig_explain.proofs.Members.{no_node}
-use Rattle.irig_explain.proofs.ReadBack.{ends_at, left_smaller, read_more}
+use Rattle.irig_explain.proofs.ReadBack.{ends_at, led_from, left_smaller, read_more}
 use Rattle.irig_explain.proofs.read_back.read_back.Goals as goal
 
 pub back-init : goal.back-init
 back-init g c =
     let price = g.C.Costs.price c.args.costs.now in
     rw c.new-claims.ensures.items (ends_at price c.args.rises c.args.nodes.now c.args.end c.args.end.last c.requires.table c.requires.end.backed)
+
+pub cheapest-way-requires-clause-top : goal.cheapest-way-requires-clause-top
+cheapest-way-requires-clause-top g c =
+    let price = g.C.Costs.price c.args.costs.now in let nodes = c.args.nodes.now in let rises = c.args.rises in let v = c.in-Some.number in
+    let follow = subst (IsEnding price rises nodes (reverse c.back.claims.items) c.args.end.cost) c.in-Some.is c.back.invariant in
+    let n = get_or nodes v no_node in
+    let is = All-get_or (IsNode price rises rises.count nodes) nodes v no_node (slice_get_within nodes v follow.node follow.at) c.requires.table.each in
+    let near = rw c.claim-to.ensures at c.nodes_near-near.ensures in
+    rw c.claim-to.ensures (led_from price rises nodes c.nodes_near-near.result n.rise n.element n.cost is.costs.way is.costs.way.from near
+    is.costs.is.backed is.costs.exact)
 
 pub back-smaller : goal.back-smaller
 back-smaller g c =

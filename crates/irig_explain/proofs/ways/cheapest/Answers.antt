@@ -1,7 +1,7 @@
 use Rattle.std.proofs.Common.{◌<◌, ◌≤◌, length, inl, inr, arith}
 use Rattle.std.proofs.lemmas.Bool.{cases_lt}
 use Rattle.std.proofs.lemmas.Option.{slice_get-get_or}
-use Rattle.irig_explain.specs.{Nodes.Within, Nodes.going, declared.claim.Kind.TheVariants.Jump}
+use Rattle.irig_explain.specs.{Nodes.Within, Nodes.going}
 use Rattle.irig_explain.proofs.{Members.at_contains, Members.no_node, LeastWays.steps_more, LeastWays.backed_more}
 use Rattle.irig_explain.proofs.ways.cheapest.Goals as goal
 
@@ -28,14 +28,14 @@ loop-from-preserved g c =
 pub returns : goal.returns
 returns g c =
     let nodes = c.args.nodes.now in let price = g.C.Costs.price c.args.costs.now in let best = c.loop-from.best in
-    let q = c.args.to.rise in let f = c.args.to.element in let top = c.top_to-top.result in
+    let q = c.args.to.rise in let f = c.args.to.element in let top = c.args.top in
     let steps = c.loop-from.invariant.steps in
-    let under : best.cost ≤ top = elim c.top_to-top.ensures [
+    let under : best.cost ≤ top = elim c.requires.top [
       | inl first ↦ omega (arith, c.loop-from.invariant.first, first)
       | inr j ↦
           let within : Within c.args.rises j.node q =
           record { later = c.requires.near.later j.number j.node j.at j.end; near = c.requires.near.near j.number j.node j.at j.start } in
-          omega (arith, j.jump, steps j.number j.node Jump (omega (arith, j.end)) j.at within j.jump)
+          omega (arith, j.step, steps j.number j.node j.kind (omega (arith, j.end)) j.at within j.step)
     ] in
     record {
       low = record {

@@ -8,7 +8,7 @@ abbrev pub invariant-loop-from : goal.invariant-loop-from
 invariant-loop-from g l = record {
   first : l.best.cost ≤ l.fn.rises.skip * l.to.rise;
   steps : (u : ℕ) (m : Node) (k : Kind) → u < l.from → slice_get l.nodes u ≡ Some m → Within l.fn.rises m l.to.rise
-      → going (g.C.Costs.price l.costs) m l.to.rise l.to.element k ≤ l.top
+      → going (g.C.Costs.price l.costs) m l.to.rise l.to.element k ≤ l.fn.top
       → l.best.cost ≤ going (g.C.Costs.price l.costs) m l.to.rise l.to.element k;
   backed : MatchOption l.best.from (l.best.cost ≡ l.fn.rises.skip * l.to.rise)
       (λ u. ComesFrom (g.C.Costs.price l.costs) l.fn.rises l.nodes l.to.rise l.to.element l.best u);

@@ -7,6 +7,11 @@ cheapest-requires-clause-small g c =
     let fits : c.args.rises.skip < 2 ^ 32 = omega arith in
     small_nodes (g.C.Costs.price c.args.costs.now) c.args.rises c.args.rises.count c.args.nodes.now c.requires.table (omega (arith, c.requires.few)) fits
 
+pub top_to-top-requires-clause-small : goal.top_to-top-requires-clause-small
+top_to-top-requires-clause-small g c =
+    let fits : c.args.rises.skip < 2 ^ 32 = omega arith in
+    small_nodes (g.C.Costs.price c.args.costs.now) c.args.rises c.args.rises.count c.args.nodes.now c.requires.table (omega (arith, c.requires.few)) fits
+
 pub returns-clause-small : goal.returns-clause-small
 returns-clause-small g c =
     let fits : c.args.rises.skip < 2 ^ 32 = omega arith in

@@ -3,10 +3,10 @@ use Rattle.irig_explain.specs.declared.{claim.Kind.TheVariants.Next, claim.Kind.
 use Rattle.irig_explain.specs.Nodes.{going}
 use Rattle.irig_explain.proofs.ways.offer.Goals as goal
 
-pub returns-then-is_above : goal.returns-then-is_above
-returns-then-is_above g c = record {
+pub returns-then-top-least_from : goal.returns-then-top-least_from
+returns-then-top-least_from g c = record {
   kept = omega arith;
-  least = λ k low. let above = c.is_above.ensures c.if-is_above.true c.args.to.element k in absurd (omega (arith, above, low));
+  least = λ k low. absurd (omega (arith, c.least_from.ensures c.args.to.element k, c.if-top-least_from.true, low));
   origin = inl refl;
 }
 

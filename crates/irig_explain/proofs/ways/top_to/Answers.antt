@@ -1,5 +1,6 @@
 use Rattle.std.proofs.Common.{◌-◌, ◌<◌, length, inr, arith}
 use Rattle.std.proofs.lemmas.Option.{slice_get-get_or}
+use Rattle.irig_explain.specs.declared.claim.Kind.TheVariants.{Jump}
 use Rattle.irig_explain.proofs.{Members.no_node}
 use Rattle.irig_explain.proofs.ways.top_to.Goals as goal
 
@@ -13,5 +14,6 @@ returns g c =
       start = omega arith;
       end = omega arith;
       at = slice_get-get_or nodes from no_node lt;
-      jump = omega (arith, c.come.ensures.cost);
+      kind = Jump;
+      step = omega (arith, c.come.ensures.cost);
     })
