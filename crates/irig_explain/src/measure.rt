@@ -23,6 +23,7 @@ impl Clock {
         ensures all { IfOk result (λ clock. length clock.intervals.items ≡ length pulses.now) }
     {
         let nominal = PART * interval;
+        let wide = width_spread(alloc, nominal, pulses)?;
         let distances = folded(alloc, nominal, pulses)?;
         let singles = singles(alloc, distances.as_slice())?;
         let middles = middles(alloc, singles.as_slice(), HALF)?;
@@ -34,7 +35,7 @@ impl Clock {
             intervals,
             longest: 2 * nominal,
             spread,
-            width_spread: width_spread(alloc, nominal, pulses)?,
+            width_spread: wide,
         })
     }
 }
