@@ -2,16 +2,10 @@
 use Rattle.std.specs.Prelude.{◌≡◌, ◌&&◌, ◌||◌, ◌<◌, ◌≤◌, ℕ, Bool, true, List, Option, Some}
 use Rattle.std.specs.Prelude.{None, codes, if◌then◌else◌, is_some, min, nat_le, unwrap_or}
 use Rattle.std.specs.List.{list_all}
-use Rattle.clap.specs.Words.{App, with_rule}
 use Rattle.irig_vcd.specs.{Digits.is_digit, Digits.is_number, Digits.number_from}
 use Rattle.irig_vcd.specs.declared.window.Window.{Window}
-use Rattle.irig_words.specs.Arguments.{option}
 use Rattle.irig_words.specs.declared.windows.WindowFault.{WindowFault}
 use Rattle.irig_words.specs.declared.windows.WindowFault.TheVariants as fault
-
--- a command line with the two options of a window
-abbrev pub with_window : App → App
-with_window app = with_rule (with_rule app (option (codes "from") None)) (option (codes "to") None)
 
 -- the number that digits spell, or 2^64 if it is above
 abbrev pub spelt : ℕ → List ℕ → Option ℕ

@@ -9,22 +9,21 @@ ghost use Rattle.irig_words.specs.Arguments.{rule_for};
 use clap::{Arg, ArgAction, Command};
 use std::alloc::{AllocError, Global};
 
-/// An argument of a command line: its name, and what a mistake calls its value.
+/// Its name, and what a mistake calls its value.
 #[derive(Clone, Copy)]
 pub enum Argument<'a> {
     /// An option `--name` with a value; it can be left out.
     Valued(&'a str, &'a str),
     /// Such an option with one of these values: `clap` refuses any other.
     Choice(&'a str, &'a str, &'a [&'a str]),
-    /// Such an option with any value, which can come more than once.
+    /// Such an option, which can come more than once.
     Repeated(&'a str, &'a str),
-    /// An option `--name` that has no value: if it is given, `clap` stores `true` for it.
+    /// An option `--name` without a value, for which `clap` stores `true`.
     Flag(&'a str),
-    /// A word by itself, without an option's name, that has to be there.
+    /// A word by itself that has to be there.
     Needed(&'a str),
 }
 
-/// The command line of a program with these arguments, in their order.
 pub fn command_of<'a>(
     alloc: Global,
     program: &'a str,
@@ -89,35 +88,4 @@ fn needed<'a>(alloc: Global, name: &'a str) -> Arg<'a>
     ensures local { result.global ≡ false }
 {
     Arg::new(alloc, name).required(true).action(ArgAction::Set)
-}
-
-pub fn option_arg<'a>(alloc: Global, name: &'a str, value: &'a str, help: &'a str) -> Arg<'a>
-    ensures rule { rule_of result ≡ option name.entry.now None }
-    ensures local { result.global ≡ false }
-{
-    Arg::new(alloc, name)
-        .long(name)
-        .value_name(value)
-        .help(help)
-        .action(ArgAction::Set)
-}
-
-pub fn flag_arg<'a>(alloc: Global, name: &'a str, help: &'a str) -> Arg<'a>
-    ensures rule { rule_of result ≡ flag name.entry.now }
-    ensures local { result.global ≡ false }
-{
-    Arg::new(alloc, name)
-        .long(name)
-        .help(help)
-        .action(ArgAction::SetTrue)
-}
-
-pub fn needed_arg<'a>(alloc: Global, name: &'a str, help: &'a str) -> Arg<'a>
-    ensures rule { rule_of result ≡ needed name.entry.now }
-    ensures local { result.global ≡ false }
-{
-    Arg::new(alloc, name)
-        .required(true)
-        .help(help)
-        .action(ArgAction::Set)
 }

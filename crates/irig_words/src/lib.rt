@@ -9,9 +9,9 @@ mod telling;
 mod usage;
 mod windows;
 
-pub use arguments::{Argument, command_of, flag_arg, needed_arg, option_arg};
+pub use arguments::{Argument, command_of};
 pub use errors::{matches_of, not_text};
 pub use formats::{FormatFault, format_named, text_or};
 pub use telling::Program;
 pub use usage::UsageFault;
-pub use windows::{WindowFault, window_named, windowed};
+pub use windows::{WindowFault, window_named};

@@ -1,17 +1,12 @@
 //! The window of a dump that the options `--from` and `--to` name.
 
-ghost use Rattle.std.specs.Prelude.{◌≡◌, ◌||◌, IfErr, IfOk, None, codes, false, is_some};
-ghost use Rattle.clap.specs.Words.{app_of, rule_of};
-ghost use Rattle.irig_words.specs.Arguments.{option};
+ghost use Rattle.std.specs.Prelude.{◌≡◌, ◌||◌, IfErr, IfOk, is_some};
 ghost use Rattle.irig_words.specs.Formats.{given};
 ghost use Rattle.irig_words.specs.Windows.{HasWindowFault, IsWindow, end_of, first_of, spelt};
-ghost use Rattle.irig_words.specs.Windows.{time_named, with_window};
+ghost use Rattle.irig_words.specs.Windows.{time_named};
 
-use crate::arguments::option_arg;
 use crate::formats::text_or;
-use clap::{Arg, Command};
 use irig_vcd::Window;
-use std::alloc::{AllocError, Global};
 use thiserror::Error;
 
 /// The options of a window with a value that they cannot have.
@@ -28,33 +23,6 @@ pub enum WindowFault {
 
 /// 2^64, the least number that is no time; a greater one is read as this.
 const NUMBER_LIMIT: u128 = 18_446_744_073_709_551_616;
-
-/// The command line with the two options of a window.
-pub fn windowed<'a>(alloc: Global, command: Command<'a>) -> Result<Command<'a>, AllocError>
-    ensures { IfOk result (λ c. app_of c ≡ with_window (app_of command.entry)) }
-{
-    command.arg(from_arg(alloc))?.arg(to_arg(alloc))
-}
-
-/// In a text of the help, what is after the last colon is the value without the option.
-fn from_arg<'a>(alloc: Global) -> Arg<'a>
-    ensures rule { rule_of result ≡ option (codes "from") None }
-    ensures local { result.global ≡ false }
-{
-    option_arg(alloc, "from", "TIME", "in microseconds, is the new 0: 0")
-}
-
-fn to_arg<'a>(alloc: Global) -> Arg<'a>
-    ensures rule { rule_of result ≡ option (codes "to") None }
-    ensures local { result.global ≡ false }
-{
-    option_arg(
-        alloc,
-        "to",
-        "TIME",
-        "in microseconds, ends the part that is read",
-    )
-}
 
 /// The window between two times in microseconds. Without `from` it begins at 0, and without `to` it
 /// ends at the greatest time. With two equal times it is empty.
