@@ -1,4 +1,4 @@
-//! How many nodes the tables of explanations have, in plain Rust: the recursion of irig_explain, over a simple table of costs in
+//! How many nodes the tables of explanations have, in plain Rust: the recursion of irig_explaining, over a simple table of costs in
 //! sixteenths of a nat, on a made recording of 10,000 microseconds an element.
 //! `rustc -O bench/explanation.rs && ./explanation RISES WINDOW LOST BAD`: LOST percent of the pulses are missing, BAD percent of any width.
 use std::time::Instant;

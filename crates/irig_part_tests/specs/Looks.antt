@@ -1,7 +1,7 @@
 -- Rises that look like elements: what a step costs, and the place it gives. This project's own.
 use Rattle.std.specs.Prelude.{ℕ, ◌+◌, ◌-◌, ◌*◌, ◌%◌, List, Bool, true, false, min, nat_eq, slice_index_or}
-use Rattle.irig_explain.specs.declared.claim.Kind.{Kind}
-use Rattle.irig_explain.specs.declared.claim.Kind.TheVariants.{Next, Step, Jump}
+use Rattle.irig_explaining.specs.declared.claim.Kind.{Kind}
+use Rattle.irig_explaining.specs.declared.claim.Kind.TheVariants.{Next, Step, Jump}
 
 -- a step to the next element, one in time, and a jump; each to the next element or to another
 abbrev pub kind_price : Kind → Bool → ℕ

@@ -1,10 +1,12 @@
 //! The cheapest explanation of ten rises, and the cost below which all give an interval a place.
 
 ghost use Rattle.std.specs.Prelude.{Bool, ◌≡◌, ◌^◌, ◌≤◌};
-ghost use Rattle.irig_explain.specs.declared.claim.Kind.TheVariants.{Jump};
+ghost use Rattle.irig_explaining.specs.declared.claim.Kind.TheVariants.{Jump};
 ghost use Rattle.irig_part_tests.specs.Looks.{kind_price, look_place, look_price};
 
-use irig_explain::{Asked, Claim, Costs, Explanation, Kind, Places, Reach, Rises, Tables, explain};
+use irig_explaining::{
+    Asked, Claim, Costs, Explanation, Kind, Places, Reach, Rises, Tables, explain,
+};
 use std::alloc::{AllocError, Global};
 use std::process::Abort;
 

@@ -2,7 +2,7 @@
 
 ghost use Rattle.std.specs.Prelude.{◌^◌, ◌<◌};
 
-use irig_explain::middles;
+use irig_explaining::middles;
 use std::alloc::{AllocError, Global};
 
 /// The second is two in one; between the fifth and the sixth is a pulse that is not one.

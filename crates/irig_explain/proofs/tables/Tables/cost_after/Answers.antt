@@ -1,4 +1,0 @@
-use Rattle.irig_explain.proofs.tables.Tables.cost_after.Goals as goal
-
-pub cost_of-requires-clause-table : goal.cost_of-requires-clause-table
-cost_of-requires-clause-table g c = rw c.as_slice-after.ensures.value c.requires.full.after_least
