@@ -7,12 +7,12 @@ pub mod Each
 mod EndsSaid
 mod Holes
 mod Hops
-mod Joined
+pub mod Joined
 mod LastNamed
 mod Lists
 mod Meeting
 mod Printed
-mod SaidPoints
+pub mod SaidPoints
 mod SeenAtEnds
 mod SeenLists
 mod SentNames

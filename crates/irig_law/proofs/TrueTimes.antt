@@ -6,8 +6,9 @@ use Rattle.irig_codes.specs.Format.{FormatView}
 use Rattle.irig_codes.specs.declared.fields.Fields.{Fields}
 use Rattle.irig_recording.specs.declared.pulse.Pulse.{Pulse}
 use Rattle.irig_law.specs.{Points.IsPoint, Printed.printed, Printed.true_time}
+use Rattle.irig_law.specs.Parts.{ArePoints, Knows, part_begin}
 use Rattle.irig_law.specs.Theorem.{Story, TimesAreTrue}
-use Rattle.irig_law.specs.declared.{frame.Frame.Frame, point.Point.Point}
+use Rattle.irig_law.specs.declared.{frame.Frame.Frame, point.Point.Point, points.Points.Points}
 use Rattle.irig_law.proofs.Printed.{begin_times, end_times, eventful_times, quiet_times, time-few}
 
 module _ (f : FormatView) (century : ℕ) (ps : List Pulse) (frames : List Frame) (name : ℕ → ℕ) (sent : ℕ → Fields)
@@ -60,3 +61,10 @@ module _ (f : FormatView) (century : ℕ) (ps : List Pulse) (frames : List Frame
 
 pub times_true : TimesAreTrue
 times_true f century ps frames name sent story k x is = point_true f century ps frames name sent story k x is
+
+-- so are those of the points of a part
+pub part_true : (f : FormatView) (century : ℕ) (ps : List Pulse) (frames : List Frame) (part : ℕ) (p : Points)
+    → ArePoints f century ps frames part p → (name : ℕ → ℕ) (sent : ℕ → Fields) → Story f century ps frames name sent → (k : ℕ) (x : Point)
+    → part_begin ps frames part ≤ k → k < part_begin ps frames (part + 1) → Knows p k x → printed f x ≡ true_time f sent (name k)
+part_true f century ps frames part p points name sent story k x low high known =
+    times_true f century ps frames name sent story k x ((points k x low high).0 known)

@@ -12,10 +12,10 @@ pub mod Happened
 pub mod Holes
 pub mod Hop
 pub mod Hours
-pub mod Joins
 pub mod Law
 pub mod Names
 pub mod OfOne
+pub mod Parts
 pub mod Points
 pub mod Printed
 pub mod Quiet

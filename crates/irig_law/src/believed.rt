@@ -16,7 +16,7 @@ use irig_times::FrameLens;
 use irig_track::Lens;
 use std::alloc::{AllocError, Global};
 
-/// The frames that `points_of` takes, in order: with `alone` all that read well.
+/// The frames that `part_points` takes, in order: with `alone` all that read well.
 pub fn believed_frames(
     alloc: Global,
     pulses: &mut Lens<'_>,

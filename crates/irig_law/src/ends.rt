@@ -4,10 +4,10 @@
 //! in their types.
 
 ghost use Rattle.std.specs.Prelude.{◌≡◌, ◌↔◌, ◌<◌, ◌≤◌, ◌+◌, ◌-◌, ◌^◌, ℕ, IfOk, IsTrue, Some, length};
-ghost use Rattle.std.specs.Prelude.{Option, false, if◌then◌else◌, is_some, slice_get};
+ghost use Rattle.std.specs.Prelude.{Option, false, if◌then◌else◌, is_some, min, slice_get};
 ghost use Rattle.irig_law.specs.{Denials.denies_named, EndPoints.begin_of, EndPoints.end_of};
 ghost use Rattle.irig_law.specs.Ends.{IsAfterLast, IsBeforeFirst, IsSure, seen_at_end};
-ghost use Rattle.irig_law.specs.Rows.{place_in};
+ghost use Rattle.irig_law.specs.{Parts.points_end, Rows.place_in};
 ghost use Rattle.irig_times.specs.TimedElements.{time_elements};
 
 use crate::clocks::{clock_of, end_slack};
@@ -15,6 +15,7 @@ use crate::denials::denies_named;
 use crate::frame::Frame;
 use crate::names::{Seen, Walk, judged_at, moved};
 use crate::point::{Point, element_after, element_before, element_in};
+use crate::points::Points;
 use crate::row::{Row, half_in, place_in, runs_in};
 use crate::seens::{in_step, seen_after, seen_before};
 use irig_codes::Format;
@@ -156,29 +157,31 @@ fn end_list(
     Ok(list)
 }
 
-/// What the first frame says of the first `many` pulses.
+/// What the first frame says of the pulses from one up to another one.
 fn begin_list(
     alloc: Global,
     format: Format,
     frame: &Frame,
     none: bool,
     steps: usize,
-    many: usize,
+    from: usize,
+    to: usize,
 ) -> Result<Vec<Option<Point>>, AllocError>
     requires minute { frame.now.time.micros < 61000000 }
-    requires small { (frame.now.marker < 2 ^ 26) × (many < 2 ^ 27) }
-    ensures each { IfOk result (λ list. length list.items ≡ many) }
+    requires small { (frame.now.marker < 2 ^ 26) × (from ≤ to) × (to < 2 ^ 27) }
+    ensures each { IfOk result (λ list. from + length list.items ≡ to) }
     ensures points { IfOk result (λ list. (i : ℕ) (y : Option Point)
-        → slice_get list.items i ≡ Some y → y ≡ begin_of format frame.now none steps i) }
+        → slice_get list.items i ≡ Some y → y ≡ begin_of format frame.now none steps (from + i)) }
 {
     let mut list = Vec::new(alloc);
-    for number in 0..many {
+    for number in from..to {
         list.push(begin_point(format, frame, none, steps, number))?;
     }
     Ok(list)
 }
 
-/// The elements of all pulses from the last frame's marker on. Fails only if memory runs out.
+/// The elements of up to two hundred pulses from the last frame's marker on. Fails only if memory
+/// runs out.
 pub fn end_points(
     alloc: Global,
     pulses: &mut Lens<'_>,
@@ -188,45 +191,47 @@ pub fn end_points(
     requires minute { frame.now.time.micros < 61000000 }
     requires inside { frame.now.marker < length pulses.old.track.pulses }
     ensures each { IfOk result (λ list.
-        length list.items + frame.now.marker ≡ length pulses.old.track.pulses) }
+        length list.items ≡ min (length pulses.old.track.pulses - frame.now.marker) 200) }
     ensures points { IfOk result (λ list. (i : ℕ) (x : Point)
         → (slice_get list.items i ≡ Some (Some x))
         ↔ IsAfterLast format pulses.old.track.pulses frame.now (frame.now.marker + i) x) }
     ensures pulses { pulses.new.track ≡ pulses.old.track }
 {
-    let many = pulses.len() - frame.marker;
+    let all = pulses.len() - frame.marker;
+    let many = all.min(200);
     let slack = end_slack(pulses, frame);
     let after = seen_after(alloc, pulses, format, frame, slack, many)?;
     let row = Row {
         marker: frame.marker,
         is_back: false,
     };
-    let none = is_sure(pulses, format, frame, &row, many - 1);
+    let none = is_sure(pulses, format, frame, &row, all - 1);
     let steps = in_step(&after);
     let list = end_list(alloc, format, frame, none, steps, many)?;
     Ok(list)
 }
 
-/// The elements of all pulses up to the last one of the first frame that carries its time. Fails
-/// only if memory runs out.
+/// The elements of up to a hundred pulses before the first frame's marker, and of those from it on
+/// that carry its time. Fails only if memory runs out.
 pub fn begin_points(
     alloc: Global,
     pulses: &mut Lens<'_>,
     format: Format,
     frame: &Frame,
-) -> Result<Vec<Option<Point>>, AllocError>
+) -> Result<Points, AllocError>
     requires minute { frame.now.time.micros < 61000000 }
     requires inside { frame.now.marker < 2 ^ 26 }
-    ensures each { IfOk result (λ list.
-        length list.items ≡ frame.now.marker + time_elements format.kind) }
-    ensures points { IfOk result (λ list. (k : ℕ) (x : Point)
-        → (slice_get list.items k ≡ Some (Some x))
-        ↔ IsBeforeFirst format pulses.old.track.pulses frame.now k x) }
+    ensures from { IfOk result (λ p. p.from ≡ frame.now.marker - 100) }
+    ensures each { IfOk result (λ p. points_end p ≡ frame.now.marker + time_elements format.kind) }
+    ensures points { IfOk result (λ p. (i : ℕ) (x : Point)
+        → (slice_get p.list.items i ≡ Some (Some x))
+        ↔ IsBeforeFirst format pulses.old.track.pulses frame.now (p.from + i) x) }
     ensures pulses { pulses.new.track ≡ pulses.old.track }
 {
+    let from = frame.marker.saturating_sub(100);
     let many = frame.marker + 1;
     let slack = end_slack(pulses, frame);
-    let before = seen_before(alloc, pulses, format, frame, slack, many)?;
+    let before = seen_before(alloc, pulses, format, frame, slack, many - from)?;
     let row = Row {
         marker: frame.marker,
         is_back: true,
@@ -234,6 +239,6 @@ pub fn begin_points(
     let none = is_sure(pulses, format, frame, &row, many);
     let steps = in_step(&before);
     let end = frame.marker + time_elements(format);
-    let list = begin_list(alloc, format, frame, none, steps, end)?;
-    Ok(list)
+    let list = begin_list(alloc, format, frame, none, steps, from, end)?;
+    Ok(Points { from, list })
 }

@@ -1,5 +1,5 @@
 -- Runs that are made of elements, one after the other.
-use Rattle.std.proofs.Common.{◌≡◌, ◌⊎◌, inl, inr, ◌<◌, ◌≤◌, ◌+◌, ◌-◌, ◌^◌, ◌++◌, ℕ, zero, suc, List, [], ◌∷◌, length, slice_get, slice_set, Some, None, arith, refl, sym, ap, ◌∙◌, subst}
+use Rattle.std.proofs.Common.{◌≡◌, ◌⊎◌, inl, inr, ◌<◌, ◌≤◌, ◌+◌, ◌-◌, ◌^◌, ◌++◌, ℕ, List, [], ◌∷◌, length, slice_get, slice_set, Some, None, arith, refl, sym, ap, ◌∙◌, subst}
 use Rattle.std.proofs.lemmas.Bool.{cases_lt, cases_order}
 use Rattle.std.proofs.lemmas.List.{length-set}
 use Rattle.std.proofs.lemmas.Option.{none-some, same_Some, slice_get_within}
@@ -7,7 +7,7 @@ use Rattle.irig_codes.specs.{Format.FormatView, Width.is_in_step}
 use Rattle.irig_recording.specs.declared.pulse.Pulse.{Pulse}
 use Rattle.irig_times.specs.Steps.{micros_between}
 use Rattle.irig_law.specs.declared.point.Point.{Point}
-use Rattle.irig_law.proofs.Each.{at-end, at-front, one-longer}
+use Rattle.irig_law.proofs.{Each.at-end, Each.at-front, Each.one-longer, Joined.set-here, Joined.set-other}
 use Rattle.irig_timed.specs.{Elements.GoesOn, Elements.IsWith, Elements.longer, Runs.AreRunsTo, Runs.IsIn, Runs.IsRun}
 use Rattle.irig_timed.specs.declared.run.Run.{Run}
 use Rattle.irig_timed.proofs.RunPlaces.{in-low, nth-in}
@@ -155,18 +155,6 @@ module _ (f : FormatView) (ps : List Pulse) (n : ℕ) (old new : List Run) (are 
             place = omega (arith, m, e, elements);
             is = made.3 ∙ ap (λ (z : Point). z.frame) same;
           }
-
-set-here : (A : Type 0) (xs : List A) (k : ℕ) (v : A) → k < length xs → slice_get (slice_set xs k v) k ≡ Some v
-set-here A [] k v less = absurd (omega (arith, less))
-set-here A (x ∷ xs) zero v less = refl
-set-here A (x ∷ xs) (suc k) v less = set-here A xs k v (omega (arith, less))
-
-set-other : (A : Type 0) (xs : List A) (k j : ℕ) (v : A) → (j ≡ k → ⊥) → slice_get (slice_set xs k v) j ≡ slice_get xs j
-set-other A [] k j v ne = refl
-set-other A (x ∷ xs) zero zero v ne = absurd (ne refl)
-set-other A (x ∷ xs) zero (suc j) v ne = refl
-set-other A (x ∷ xs) (suc k) zero v ne = refl
-set-other A (x ∷ xs) (suc k) (suc j) v ne = set-other A xs k j v (λ e. ne (ap suc e))
 
 -- the last run with one pulse more
 module _ (f : FormatView) (ps : List Pulse) (n : ℕ) (old : List Run) (are : AreRunsTo f ps n old) (x : Point) (fits : n < 2 ^ 63)

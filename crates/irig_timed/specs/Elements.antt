@@ -1,10 +1,11 @@
 -- How runs are made of the elements of pulses, one after the other. This project's own.
-use Rattle.std.specs.Prelude.{◌≡◌, ◌↔◌, ℕ, ◌+◌, ◌-◌, true, List, length, Option, Some, None}
-use Rattle.std.specs.Prelude.{slice_get, if◌then◌else◌}
+use Rattle.std.specs.Prelude.{◌≡◌, ◌↔◌, ℕ, ◌+◌, ◌-◌, ◌<◌, ◌≤◌, true, List, length, Option, Some}
+use Rattle.std.specs.Prelude.{None, slice_get, if◌then◌else◌}
 use Rattle.irig_codes.specs.{Format.FormatView, Width.is_in_step}
 use Rattle.irig_recording.specs.declared.pulse.Pulse.{Pulse}
 use Rattle.irig_times.specs.Steps.{micros_between}
-use Rattle.irig_law.specs.declared.point.Point.{Point}
+use Rattle.irig_law.specs.Parts.{Knows}
+use Rattle.irig_law.specs.declared.{point.Point.Point, points.Points.Points}
 use Rattle.irig_timed.specs.{Line.is_in_hour, Runs.AreRunsTo, Runs.IsIn, declared.run.Run.Run}
 
 -- what is not past the end of its hour
@@ -35,3 +36,11 @@ pub record IsWith (f : FormatView) (ps : List Pulse) (old new : List Run) (numbe
   pub runs : AreRunsTo f ps (number + 1) new
   pub here : (x : Point) → IsIn new number x ↔ (known ≡ Some x)
   pub others : (k : ℕ) (x : Point) → (k ≡ number → ⊥) → IsIn new k x ↔ IsIn old k x
+
+-- some runs, with what points say of the pulses from one up to another one
+pub record AreWith (f : FormatView) (ps : List Pulse) (old new : List Run) (p : Points)
+    (from to : ℕ) : Type 0 where
+  pub runs : AreRunsTo f ps to new
+  pub here : (k : ℕ) (x : Point) → from ≤ k → k < to
+      → IsIn new k x ↔ (Knows p k x × (kept f (Some x) ≡ Some x))
+  pub others : (k : ℕ) (x : Point) → k < from → IsIn new k x ↔ IsIn old k x

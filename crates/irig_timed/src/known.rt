@@ -10,9 +10,9 @@ ghost use Rattle.irig_timed.specs.Runs.{AreRuns, IsIn, place_at, place_before};
 use crate::around::{place_at, place_before};
 use crate::gap::{Gap, gap_at};
 use crate::held::{has_doubtful, held_in, with_doubt};
-use crate::run::{Run, runs_of};
+use crate::run::{Run, add_points};
 use irig_codes::Format;
-use irig_law::{Frame, believed_frames, points_of};
+use irig_law::{Frame, Points, believed_frames, part_begin, part_points};
 use irig_times::FrameLens;
 use irig_track::Lens;
 use std::alloc::{AllocError, Global};
@@ -62,7 +62,8 @@ impl Known {
     }
 }
 
-/// The runs of a track by its believed frames.
+/// The runs of a track by its believed frames, part by part, so that the points of one part alone
+/// take memory.
 fn track_runs(
     alloc: Global,
     pulses: &mut Lens<'_>,
@@ -77,8 +78,16 @@ fn track_runs(
         ↔ IsElement format century pulses.old.track.pulses frames.now k x) }
     ensures pulses { pulses.new.track ≡ pulses.old.track }
 {
-    let points = points_of(alloc, pulses, frames, format, century)?;
-    let runs = runs_of(alloc, pulses, format, &points)?;
+    // For the proof alone: the call promises how many pulses there can be.
+    let _count = pulses.len();
+    let mut runs = Vec::new(alloc);
+    let mut points = Points::none(alloc);
+    for part in 0..frames.len() + 1 {
+        points = part_points(alloc, pulses, frames, format, century, part, &points)?;
+        let from = part_begin(pulses, frames, part);
+        let to = part_begin(pulses, frames, part + 1);
+        add_points(&mut runs, pulses, format, &points, from, to)?;
+    }
     Ok(runs)
 }
 

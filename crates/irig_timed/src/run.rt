@@ -1,19 +1,18 @@
 //! Pulses that follow one another, as elements of one frame of the code.
 
-ghost use Rattle.std.specs.Prelude.{◌≡◌, ◌↔◌, ◌<◌, ◌≤◌, ◌+◌, ◌^◌, ℕ, IfOk, IfSome, IsTrue, List};
-ghost use Rattle.std.specs.Prelude.{OnOk, Some, length, slice_get};
+ghost use Rattle.std.specs.Prelude.{◌≡◌, ◌↔◌, ◌<◌, ◌≤◌, ◌+◌, ◌^◌, ℕ, IfSome, IsTrue, List, OnOk};
+ghost use Rattle.std.specs.Prelude.{length};
 ghost use Rattle.irig_codes.specs.Format.{FormatView};
-ghost use Rattle.irig_law.specs.declared.point.Point.{Point};
 ghost use Rattle.irig_recording.specs.declared.pulse.Pulse.{Pulse};
-ghost use Rattle.irig_timed.specs.Elements.{GoesOn, IsNext, IsWith, kept, longer};
-ghost use Rattle.irig_timed.specs.Runs.{AreRunsTo, IsIn, RunsBy};
+ghost use Rattle.irig_timed.specs.Elements.{AreWith, GoesOn, IsNext, IsWith, kept, longer};
+ghost use Rattle.irig_timed.specs.Runs.{AreRunsTo, RunsBy};
 
 use crate::line::is_in_hour;
 use irig_codes::{Format, in_step};
-use irig_law::{Point, micros_between};
+use irig_law::{Point, Points, micros_between};
 use irig_times::Time;
 use irig_track::Lens;
-use std::alloc::{AllocError, Global};
+use std::alloc::AllocError;
 
 #[derive(Clone, Copy)]
 pub struct Run {
@@ -53,27 +52,28 @@ pub fn runs_before(runs: &[Run], number: usize) -> usize
     low
 }
 
-/// The runs of a list of elements, one for each pulse, as far as they are known and not past the
-/// end of their hour.
-pub fn runs_of(
-    alloc: Global,
+/// Adds what points say of the pulses from one up to another one, as far as it is not past the end
+/// of the hour. If memory runs out, a part of it is added.
+pub fn add_points(
+    list: &mut Vec<Run>,
     pulses: &mut Lens<'_>,
     format: Format,
-    points: &[Option<Point>],
-) -> Result<Vec<Run>, AllocError>
-    requires few { length points.now < 2 ^ 63 }
-    ensures runs { IfOk result (λ list.
-        AreRunsTo format pulses.old.track.pulses (length points.now) list.items) }
-    ensures points { IfOk result (λ list. (k : ℕ) (x : Point) → IsIn list.items k x
-        ↔ ((slice_get points.now k ≡ Some (Some x)) × (kept format (Some x) ≡ Some x))) }
+    points: &Points,
+    from: usize,
+    to: usize,
+) -> Result<(), AllocError>
+    requires runs { AreRunsTo format pulses.old.track.pulses from list.old.items }
+    requires order { from ≤ to }
+    requires few { to < 2 ^ 63 }
+    ensures with { OnOk result (AreWith format pulses.old.track.pulses list.old.items list.new.items
+        points.now from to) }
     ensures pulses { pulses.new.track ≡ pulses.old.track }
 {
-    let mut list = Vec::new(alloc);
-    for number in 0..points.len() {
-        let known = kept(format, points[number]);
-        add(&mut list, pulses, format, number, known)?;
+    for number in from..to {
+        let known = kept(format, points.at(number));
+        add(list, pulses, format, number, known)?;
     }
-    Ok(list)
+    Ok(())
 }
 
 /// What is known of a pulse, if it is not past the end of its hour.

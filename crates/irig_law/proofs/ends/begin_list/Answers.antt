@@ -1,4 +1,4 @@
-use Rattle.std.proofs.Common.{◌≡◌, ℕ, Option, arith, sym, subst}
+use Rattle.std.proofs.Common.{◌≡◌, ◌+◌, ℕ, Option, arith, sym, subst}
 use Rattle.irig_law.specs.EndPoints.{begin_of}
 use Rattle.irig_law.specs.declared.point.Point.{Point}
 use Rattle.irig_law.proofs.Each.{at-more, one-longer}
@@ -15,6 +15,7 @@ loop-number-preserved c =
     let longer = one-longer (Option Point) xs c.push.new.self.items x pushed in
     record {
       many = omega (arith, longer, before.many);
-      each = at-more (Option Point) xs c.push.new.self.items x (λ (i : ℕ) (y : Option Point). y ≡ begin_of f a c.args.none c.args.steps i) pushed before.each
+      each = at-more (Option Point) xs c.push.new.self.items x
+          (λ (i : ℕ) (y : Option Point). y ≡ begin_of f a c.args.none c.args.steps (c.args.from + i)) pushed before.each
           (subst (λ (i : ℕ). x ≡ begin_of f a c.args.none c.args.steps i) (sym before.many) c.begin_point.ensures);
     }

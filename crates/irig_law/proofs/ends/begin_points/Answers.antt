@@ -21,5 +21,6 @@ returns-clause-points c =
     let stepped : AreInStep list steps = subst (λ (l : List Seen). AreInStep l steps) c.deref.ensures.value c.in_step-steps.ensures in
     let denied : (none ≡ true) ↔ IsSureBefore f ps a =
     subst (λ (q : List Pulse). (none ≡ true) ↔ IsSureBefore f q a) (after ∙ slack) c.is_sure-none.ensures.sure in
-    begin-says f ps a list steps none seen (omega (arith, c.in_ok-before.ensures.each)) stepped denied c.in_ok-list.list.items
-    (omega (arith, c.in_ok-list.ensures.each)) c.in_ok-list.ensures.points
+    begin-says f ps a list steps none seen (omega (arith, c.in_ok-before.ensures.each, c.saturating_sub-from.ensures)) stepped denied
+    c.saturating_sub-from.result c.in_ok-list.list.items c.saturating_sub-from.ensures (omega (arith, c.in_ok-list.ensures.each))
+    c.in_ok-list.ensures.points

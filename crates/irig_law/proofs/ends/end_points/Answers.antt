@@ -19,6 +19,6 @@ returns-clause-points c =
     c.end_slack-slack.ensures.slack refl in
     let stepped : AreInStep list steps = subst (λ (l : List Seen). AreInStep l steps) c.deref.ensures.value c.in_step-steps.ensures in
     let denied : (none ≡ true) ↔ IsSureAfter f ps a =
-    sure-after f _ ps a none _ c.is_sure-none.ensures.sure (after ∙ slack) (omega (arith, c.in_ok-after.ensures.each)) in
-    end-says f ps a list steps none seen (omega (arith, c.in_ok-after.ensures.each)) stepped denied c.in_ok-list.list.items
-    (omega (arith, c.in_ok-list.ensures.each)) c.in_ok-list.ensures.points
+    sure-after f _ ps a none _ c.is_sure-none.ensures.sure (after ∙ slack) (omega (arith, c.len.ensures.len)) in
+    end-says f ps a list steps none seen (omega (arith, c.in_ok-after.ensures.each, c.min-many.ensures, c.len.ensures.len)) stepped denied
+    c.in_ok-list.list.items (omega (arith, c.in_ok-list.ensures.each, c.min-many.ensures, c.len.ensures.len)) c.in_ok-list.ensures.points
