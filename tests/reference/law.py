@@ -21,6 +21,8 @@ COUNTED = 100  # pulses that an end of the recording has at most
 SHOWING = 2  # pulses that show on which side of an event another one is
 DOUBTING = 2  # pulses that deny, and take its time from a frame of the code
 WIDEST = Fraction(1, 50)  # of an interval: the greatest bound of a time
+FRAME = 99  # elements after the marker of a frame
+UNITS = 10**12  # of an interval, in which bounds are counted
 
 
 class Clock(NamedTuple):
@@ -66,6 +68,7 @@ class Law:
         self.timed = timed_elements(kind, expression)
         self.fine = times.frames_of(kind, expression, pulses)
         self.believed = self.trusted()
+        self.markers = [frame.marker for frame in self.believed]
         self.classes_at = {}  # of the elements of the frame of a time
         self.points = {}  # what the pulses that have a time are
         self.quiet = []  # of each stretch between two believed frames: how many elements they are apart, or None if there was an event
@@ -339,30 +342,60 @@ class Law:
         many = 100 * (micros // PERIOD[self.kind]) + following - element
         return many if many > 0 else None
 
+    def frames_around(self, one):
+        """The last believed frame that begins with a pulse or before it, and the next one; None for one that is not there."""
+        after = bisect_right(self.markers, one)
+        return self.believed[after - 1] if after else None, self.believed[after] if after < len(self.believed) else None
+
     def rates(self, one):
-        """How many intervals at least and at most pass in a microsecond by the two believed frames around a pulse."""
-        before = [frame for frame in self.believed if frame.marker <= one]
-        after = [frame for frame in self.believed if frame.marker > one]
-        if not before or not after:
+        """How many units at least and at most pass in a microsecond by the two believed frames around a pulse."""
+        before, after = self.frames_around(one)
+        if before is None or after is None:
             return None
-        span, slack = self.span(before[-1]), self.slack(before[-1], after[0])
-        return (Fraction(99, span + slack), Fraction(99, span - slack)) if slack < span else None
+        span, slack = self.span(before), self.slack(before, after)
+        return (99 * UNITS // (span + slack), 99 * UNITS // (span - slack) + 1) if slack < span else None
 
     def bound(self, one, other, many):
-        """By how many intervals the line between two pulses can be off: the recorder lost what the distance shows at any place between
-        them, and its clock strayed as far as it does."""
+        """By how many intervals the line between two pulses can be off: its clock ran as it does in the frames around, but the recorder
+        lost what the distance shows at any place between them."""
         long = self.rises[other] - self.rises[one]
         if other == one + 1 and many == 1 and timecode.in_step(self.interval, long):
             return Fraction(0)
         rates = self.rates(one)
-        if any(self.counts(place) for place in range(one + 1, other)):
+        if rates is None or any(self.counts(place) for place in range(one + 1, other)):
             return None
-        return rates and max(rates[1] * long - many, many - rates[0] * long)
+        units = many * UNITS
+        if many > FRAME:
+            return Fraction(max(rates[1] * long - units, units - rates[0] * long, 0) + 1, UNITS)
+        strays = max(self.strays_over(frame, many, long) for frame in self.frames_around(one))
+        return Fraction(max(UNITS * strays // long - self.bends(one, other) * (UNITS // self.interval), 0) + 1, UNITS)
+
+    def strays_over(self, frame, many, long):
+        """The most by which the rises of a frame are, up to some elements after any of them, off a line of as many elements, in parts of
+        a microsecond."""
+        rises = self.rises[frame.marker:frame.marker + FRAME + 1]
+        offs = [many * rise - place * long for place, rise in enumerate(rises)]
+        near = [offs[first:first + many + 1] for first in range(len(offs))]
+        return max(max(each) - min(each) for each in near)
+
+    def bends(self, one, other):
+        """The most by which two steps next to each other differ: in the believed frames around a pulse, and at it and another one."""
+        frames = [frame for frame in self.frames_around(one) if frame]
+        return max(self.bend(place) for place in (one, other, *(frame.marker + each for frame in frames for each in range(1, FRAME))))
+
+    def bend(self, place):
+        """By how much the two steps at a pulse differ, if both are one interval."""
+        if not 0 < place < self.last:
+            return 0
+        before, after = self.rises[place] - self.rises[place - 1], self.rises[place + 1] - self.rises[place]
+        even = timecode.in_step(self.interval, before) and timecode.in_step(self.interval, after)
+        return abs(before - after) if even else 0
 
     def is_event(self, one, other):
         """Whether the clock shows, by more than half an interval, another number of elements between two pulses than their times."""
         many, rates, long = self.elements_between(one, other), self.rates(one), self.rises[other] - self.rises[one]
-        return not many or rates is not None and (rates[1] * long + Fraction(1, 2) < many or many + Fraction(1, 2) < rates[0] * long)
+        units, half = (many or 0) * UNITS, UNITS // 2
+        return not many or rates is not None and (rates[1] * long + half < units or units + half < rates[0] * long)
 
     def later(self, point, micros):
         """The time some microseconds after a point, or before it, in its hour."""

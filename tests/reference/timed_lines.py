@@ -2,9 +2,9 @@
 import datetime
 import re
 from fractions import Fraction
+from math import ceil
 from typing import NamedTuple, Optional
 
-from reference import timecode
 from reference.law import Law
 from reference.times import follows, is_leap
 
@@ -14,7 +14,6 @@ LONGEST_LINE = 2**20
 YEAR_END = 300  # days by which the day of the year goes back at least if a year ends
 NUMBER = re.compile(rb"[ \t\r]*([+-]?[0-9]+(?:\.[0-9]+)?)(?:[eE]([+-]?[0-9]+))?[ \t\r]*")
 COLUMNS = 65536  # that a number can name
-UNITS_OF_INTERVAL = 10**12  # in which a bound over a hole is counted
 ROUNDED = 2  # microseconds: one in which a rise is recorded, and one that is printed
 BOUND_NAME = b"bound_us"
 FARTHEST = 4000  # an exponent that is greater says no more, as long as a column has fewer digits
@@ -52,35 +51,11 @@ class Track:
         return found and found.time._replace(micros=int(found.time.micros))
 
     def off(self, moment):
-        """By how many microseconds the time of a moment can be off: over a hole, and by how much the steps at a pulse differ, in the
-        believed frames around it and at the two pulses that it is between."""
-        one, other = self.law.around(moment)
-        first = max([frame.marker for frame in self.frames if frame.marker <= one], default=None)
-        second = min([frame.marker for frame in self.frames if frame.marker > one], default=None)
-        places = [marker + element for marker in (first, second) if marker is not None for element in range(1, 99)]
-        return self.across(one, other) + max(self.bend(place) for place in (one, other, *places)) + ROUNDED
-
-    def bend(self, place):
-        """By how much the two steps at a pulse differ, if both are one interval."""
-        rises = self.law.rises
-        if not 0 < place < len(rises) - 1:
-            return 0
-        before, after = rises[place] - rises[place - 1], rises[place + 1] - rises[place]
-        even = timecode.in_step(self.law.interval, before) and timecode.in_step(self.law.interval, after)
-        return abs(before - after) if even else 0
-
-    def across(self, one, other):
-        """By how many microseconds, rounded up, the line between two pulses can be off."""
-        law, long = self.law, self.law.rises[other] - self.law.rises[one]
-        many = law.elements_between(one, other)
-        if law.bound(one, other, many) == 0:
-            return 0
-        before = [frame for frame in self.frames if frame.marker <= one][-1]
-        after = [frame for frame in self.frames if frame.marker > one][0]
-        span, slack, units = law.span(before), law.slack(before, after), many * UNITS_OF_INTERVAL
-        least, most = 99 * UNITS_OF_INTERVAL // (span + slack), 99 * UNITS_OF_INTERVAL // (span - slack) + 1
-        bound = max(most * long - units, units - least * long) + 1
-        return -(-bound * law.interval // UNITS_OF_INTERVAL)
+        """By how many microseconds the time of a moment can be off: over a hole, rounded up, and by how much the steps at a pulse differ,
+        in the believed frames around it and at the two pulses that it is between."""
+        law, (one, other) = self.law, self.law.around(moment)
+        bound = law.bound(one, other, law.elements_between(one, other))
+        return ceil(bound * law.interval) + law.bends(one, other) + ROUNDED
 
     def why(self, moment):
         """Why a moment has no time: a frame that is not believed is between the pulses with a time around it, or what these show."""

@@ -92,6 +92,12 @@ def wavy(pulses: Pulses) -> Pulses:
     return found
 
 
+def waves(pulses: Pulses, most: int) -> Pulses:
+    """The pulses up to some microseconds later, in waves of eight."""
+    lates = [most * min(number % 8, 8 - number % 8) // 4 for number in range(len(pulses))]
+    return [(rise + late, fall + late) for (rise, fall), late in zip(pulses, lates)]
+
+
 def stuck(text: str, weight: int) -> str:
     """The time that is sent if an element of the seconds is always zero."""
     return text[:-1] + str(int(text[-1]) & ~weight)
@@ -134,6 +140,14 @@ ROWS = [
     Row("a hole in which the recorder waits", "B", later(without(LONG, *range(place(3, 10), place(4, 10))), place(3, 10), 100),
         [(3, 57, 0, "12:34:33.569952")],
         bounds=[(3, 57, Fraction(10501, 100) * FAST - 105), (3, 87, Fraction(10501, 100) * FAST - 105)]),
+    # 100 microseconds in it: a line over 16 elements in 160,100 microseconds, and rises of the frames around it that are in time
+    Row("a short hole in which the recorder waits", "B", later(without(LONG, *range(place(3, 10), place(3, 21))), place(3, 10), 100),
+        [(3, 15.5, 0, "12:34:33.154946")], bounds=[(3, 15.5, Fraction(16 * 100, 160_100))]),
+    # over 16 elements rises are 100 microseconds off the line, and steps differ by 50: as much more as that is in a hole
+    Row("a hole on a clock with wow", "B", without(waves(THREE, 100), *range(place(1, 10), place(1, 21))), [(1, 15.5, 100, "12:34:57.155000")],
+        bounds=[(1, 15.5, Fraction(100 - 50, 10_000))]),
+    Row("a hole on a clock with more wow", "B", without(waves(THREE, 500), *range(place(1, 10), place(1, 21))),
+        [(1, 6, 375, "12:34:57.060000"), (1, 15.5, 500, "-")]),
     Row("a hole in which the clock changes by 1 %", "B", without(slower(LONG, place(5, 0), 100), *range(place(3, 10), place(7, 10))),
         [(3, 6.5, 0, "12:34:33.065000"), (5, 0.5, 50, "-"), (7, 50.5, 25050, "12:34:37.505000")]),
     Row("a hole, and a clock that changes by 1 % near its end", "B",

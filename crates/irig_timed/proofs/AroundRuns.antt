@@ -9,7 +9,7 @@ use Rattle.irig_times.specs.{Steps.micros_between}
 use Rattle.irig_times.specs.declared.why.Why.TheVariants.{Step}
 use Rattle.irig_times.proofs.SameTimes.{same-time}
 use Rattle.irig_law.specs.{Fits.periods_apart, declared.frame.Frame.Frame}
-use Rattle.irig_timed.specs.{Apart.elements_after, Apart.elements_by, Gaps.gap_between, Gaps.gap_over}
+use Rattle.irig_timed.specs.{Apart.elements_after, Apart.elements_by, Bends.bends_over, Gaps.gap_between, Gaps.gap_over}
 use Rattle.irig_timed.specs.{Gaps.is_free, Gaps.is_step, Knowns.IsKnownIn, Moments.IsElement, Reasons.has_doubtful, Reasons.with_doubt}
 use Rattle.irig_timed.specs.{Stretches.stretch_at, Surroundings.IsAround}
 use Rattle.irig_timed.specs.Runs.{IsIn, IsRun, RunsBy, nth_of, place_at, place_before}
@@ -44,7 +44,7 @@ module _ (f : FormatView) (century : ℕ) (ps : List Pulse) (believed : List Fra
       let other = r.number + suc m in
       let step : is_step f ps one other n ≡ true = all-three (other == one + 1) (n == 1) (is_in_step f (micros_between ps one other))
       (eq-eqb other (one + 1) (omega arith)) (eq-eqb n 1 one-element) in-step in
-      let other-gap = gap_over f ps (is_free f ps one other) (stretch_at believed one) (micros_between ps one other) n in
+      let other-gap = gap_over f ps (is_free f ps one other) (stretch_at believed one) (bends_over f ps believed one other) (micros_between ps one other) n in
       ap (λ b. cond b (Line 0) (cond (n == 0) (Untimed Step) other-gap)) step
 
 module _ (f : FormatView) (century : ℕ) (ps : List Pulse) (believed : List Frame) (held : List Bool) (runs : List Run) (gaps : List Gap)

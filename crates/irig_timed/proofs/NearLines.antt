@@ -6,7 +6,7 @@ use Rattle.std.proofs.lemmas.Bool.{cases_lt}
 use Rattle.irig_codes.specs.{Format.FormatView, Format.interval_of, declared.format.Kind.Kind}
 use Rattle.irig_codes.specs.declared.format.Kind.TheVariants.{A, B, E, G}
 use Rattle.irig_law.specs.{Holes.units_of, Holes.Rate, Holes.HolesAreBounded}
-use Rattle.irig_timed.specs.{Gaps.most_off, Line.over_in, Truths.PassesNearly, Truths.units_in}
+use Rattle.irig_timed.specs.{Bends.units_in, Gaps.most_off, Line.over_in, Truths.PassesNearly}
 
 pub unscaled : (k a b : ℕ) → 0 < k → k * a ≤ k * b → a ≤ b
 unscaled k a b some le = elim (cases_lt b a) [

@@ -13,7 +13,7 @@ use Rattle.irig_timed.specs.{Apart.elements_after, Bends.bends_over, Bends.micro
 use Rattle.irig_timed.specs.Line.{in_hour, is_back, over_in, since_hour}
 use Rattle.irig_timed.specs.NearTimes.{IsNear, Passes, TimesAreNear}
 use Rattle.irig_timed.specs.TrueMoments.{MomentsAreNear}
-use Rattle.irig_timed.specs.{Truths.IsTrue, Truths.MomentsAreTrue, Truths.units_in}
+use Rattle.irig_timed.specs.{Bends.units_in, Truths.IsOver, Truths.IsTrue, Truths.MomentsAreTrue}
 use Rattle.irig_timed.proofs.{NearLines.unscaled, NearLines.whole-units, TrueMoments.line-stretch, TrueMoments.not-over}
 
 -- the minute of a time in its hour has begun
@@ -190,17 +190,30 @@ module _ (f : FormatView) (century micros : ℕ) (ps : List Pulse) (frames : Lis
         late = (let late = rest-late (d * unit) over all more off (passed part) room least most since over-all in omega (arith, first, last, left, late));
       })
 
+  -- over a hole, a short one or a long one
+  over-hole : Passes f century ps frames d n time bound m passed → 0 < bound
+      → IsOver f (bound + units_in f (bends_over f ps frames m.from.number m.to.number)) d (passed part) over
+  over-hole passes bounded =
+      let bends = bends_over f ps frames m.from.number m.to.number in
+      let s = line-stretch f ps frames m.from.number m.to.number many bound bounded m.line in
+      elim (cases_lt many 100) [
+        | inl less ↦ true_at.alike s.0.0 s.0.1 s.1 bounded less passed (passes.short s.0.0 s.0.1 s.1 bounded less)
+        | inr more ↦
+            let nearly = true_at.passes s.0.0 s.0.1 s.1 bounded more passed (passes.long s.0.0 s.0.1 s.1 bounded more) in
+            let wider : d * bound ≤ d * (bound + units_in f bends) = mul-le-mul_left d (omega arith) in
+            (omega (arith, nearly.0, wider), omega (arith, nearly.1, wider))
+      ]
+
   pub near : Passes f century ps frames d n time bound m passed → IsNear f century ps frames d n time bound m name sent passed
   near passes =
       let bends = bends_over f ps frames m.from.number m.to.number in
       elim (cases_lt 0 bound) [
         | inl bounded ↦
             let up = micros_up f bound in
-            let s = line-stretch f ps frames m.from.number m.to.number many bound bounded m.line in
-            let nearly = true_at.passes s.0.0 s.0.1 s.1 bounded passed (passes.hole s.0.0 s.0.1 s.1 bounded) in
+            let nearly = over-hole passes bounded in
             let least : bound ≤ unit * up = up-within f bound (unit-some f) in
-            let most : d * bound ≤ d * (unit * up) = mul-le-mul_left d least in
-            by-side up (omega arith) (omega (arith, nearly.0, most)) (omega (arith, nearly.1, most))
+            let most : d * (bound + unit * bends) ≤ d * (unit * (up + bends)) = mul-le-mul_left d (omega (arith, least)) in
+            by-side (up + bends) (omega arith) (omega (arith, nearly.0, most)) (omega (arith, nearly.1, most))
             (is_back f m.from.point m.to.point over) m.is
         | inr none ↦
             let even = passes.even (omega (arith, none)) in

@@ -1,7 +1,7 @@
 -- The time of each moment is true, to its bound.
 use Rattle.std.proofs.Common.{◌≡◌, ◌&&◌, ◌==◌, inl, inr, ◌<◌, ◌≤◌, ◌+◌, ◌-◌, ◌*◌, ◌/◌, ℕ, nat_le, nat_lt, Bool, true, false, cond, List, Option, Some, None, arith, refl, sym, ap, ◌∙◌}
 use Rattle.std.proofs.Math.Nat.{lt-mul-div-succ, mul-le-mul_left}
-use Rattle.std.proofs.lemmas.Bool.{cases_lt}
+use Rattle.std.proofs.lemmas.Bool.{cases_lt, le-ltb, lt-ltb}
 use Rattle.irig_codes.specs.{Format.FormatView}
 use Rattle.irig_recording.specs.declared.pulse.Pulse.{Pulse}
 use Rattle.irig_track.specs.{Track.IsLongTrack}
@@ -11,11 +11,12 @@ use Rattle.irig_times.specs.declared.why.Why.TheVariants.{Hole, Step}
 use Rattle.irig_law.specs.{Holes.rate_of, Holes.units_of, Holes.Rate, Clocks.clock_of, Clocks.slack_of}
 use Rattle.irig_law.specs.declared.{frame.Frame.Frame}
 use Rattle.irig_law.specs.{Holes.HolesAreBounded, Theorem.TimesAreTrue}
-use Rattle.irig_timed.specs.{Apart.elements_after, Moments.IsMomentBy, Stretches.stretch_at, Truths.MomentsAreTrue}
-use Rattle.irig_timed.specs.Gaps.{gap_by, gap_of, gap_over, is_event, is_free, is_step, most_off, widest}
+use Rattle.irig_timed.specs.{Apart.elements_after, Bends.bends_over, Bends.units_in, Moments.IsMomentBy, Stretches.stretch_at}
+use Rattle.irig_timed.specs.{Truths.MomentsAreTrue, Windows.strays_by, Windows.strays_over}
+use Rattle.irig_timed.specs.Gaps.{gap_by, gap_of, gap_over, is_event, is_free, is_step, most_off, off_in, widest}
 use Rattle.irig_timed.specs.declared.gap.Gap.{Gap}
 use Rattle.irig_timed.specs.declared.gap.Gap.TheVariants.{Line, Untimed}
-use Rattle.irig_timed.proofs.NearLines.{passes_nearly}
+use Rattle.irig_timed.proofs.{NearLines.passes_nearly, WindowLines.passes_alike}
 
 abbrev bound-of : Gap → ℕ
 bound-of (Line bound) = bound
@@ -27,11 +28,10 @@ by-rate true w off bound some is = sym (ap bound-of is)
 by-rate false true off bound some is = absurd (let none : 0 ≡ bound = ap bound-of is in omega (arith, none, some))
 by-rate false false off bound some is = absurd (let none : 0 ≡ bound = ap bound-of is in omega (arith, none, some))
 
-by-clock : (v free : Bool) (r : Rate) (long units bound : ℕ) → 0 < bound → cond v (gap_by free r long units) (Untimed Hole) ≡ Line bound
-    → bound ≡ most_off r long units
-by-clock true free r long units bound some is =
-    by-rate (free && nat_le (most_off r long units) widest) (is_event r long units) (most_off r long units) bound some is
-by-clock false free r long units bound some is = absurd (let none : 0 ≡ bound = ap bound-of is in omega (arith, none, some))
+by-clock : (v free : Bool) (r : Rate) (off long units bound : ℕ) → 0 < bound → cond v (gap_by free r off long units) (Untimed Hole) ≡ Line bound
+    → bound ≡ off
+by-clock true free r off long units bound some is = by-rate (free && nat_le off widest) (is_event r long units) off bound some is
+by-clock false free r off long units bound some is = absurd (let none : 0 ≡ bound = ap bound-of is in omega (arith, none, some))
 
 by-words : (v w : Bool) (gap : Gap) (bound : ℕ) → 0 < bound → cond v (Line 0) (cond w (Untimed Step) gap) ≡ Line bound → gap ≡ Line bound
 by-words true w gap bound some is = absurd (let none : 0 ≡ bound = ap bound-of is in omega (arith, none, some))
@@ -40,18 +40,21 @@ by-words false false gap bound some is = is
 
 pub bound-is : (f : FormatView) (ps : List Pulse) (frames : List Frame) (one other n bound : ℕ) → 0 < bound
     → gap_of f ps frames one other n ≡ Line bound → (a b : Frame) → stretch_at frames one ≡ Some (a, b)
-    → bound ≡ most_off (rate_of (clock_of f ps a (slack_of ps a b))) (micros_between ps one other) (units_of n)
+    → bound ≡ off_in (rate_of (clock_of f ps a (slack_of ps a b)))
+    (strays_by f ps (bends_over f ps frames one other) (a, b) (micros_between ps one other) n) (micros_between ps one other) n
 bound-is f ps frames one other n bound some is a b at =
     let c = clock_of f ps a (slack_of ps a b) in
     let long = micros_between ps one other in
     let free = is_free f ps one other in
-    let over = by-words (is_step f ps one other n) (n == 0) (gap_over f ps free (stretch_at frames one) long n) bound some is in
-    by-clock (nat_lt c.slack c.span) free (rate_of c) long (units_of n) bound some (ap (λ s. gap_over f ps free s long n) (sym at) ∙ over)
+    let bends = bends_over f ps frames one other in
+    let off = off_in (rate_of c) (strays_by f ps bends (a, b) long n) long n in
+    let over = by-words (is_step f ps one other n) (n == 0) (gap_over f ps free (stretch_at frames one) bends long n) bound some is in
+    by-clock (nat_lt c.slack c.span) free (rate_of c) off long (units_of n) bound some (ap (λ s. gap_over f ps free s bends long n) (sym at) ∙ over)
 
-some-stretch : (f : FormatView) (ps : List Pulse) (free : Bool) (s : Option (Frame × Frame)) (long n bound : ℕ) → gap_over f ps free s long n ≡ Line bound
-    → (x : Frame × Frame) × (s ≡ Some x)
-some-stretch f ps free None long n bound is = absurd (cc is)
-some-stretch f ps free (Some x) long n bound is = (x, refl)
+some-stretch : (f : FormatView) (ps : List Pulse) (free : Bool) (s : Option (Frame × Frame)) (bends long n bound : ℕ)
+    → gap_over f ps free s bends long n ≡ Line bound → (x : Frame × Frame) × (s ≡ Some x)
+some-stretch f ps free None bends long n bound is = absurd (cc is)
+some-stretch f ps free (Some x) bends long n bound is = (x, refl)
 
 -- it is in a stretch
 pub line-stretch : (f : FormatView) (ps : List Pulse) (frames : List Frame) (one other n bound : ℕ) → 0 < bound
@@ -59,8 +62,9 @@ pub line-stretch : (f : FormatView) (ps : List Pulse) (frames : List Frame) (one
 line-stretch f ps frames one other n bound some is =
     let long = micros_between ps one other in
     let free = is_free f ps one other in
-    some-stretch f ps free (stretch_at frames one) long n bound
-    (by-words (is_step f ps one other n) (n == 0) (gap_over f ps free (stretch_at frames one) long n) bound some is)
+    let bends = bends_over f ps frames one other in
+    some-stretch f ps free (stretch_at frames one) bends long n bound
+    (by-words (is_step f ps one other n) (n == 0) (gap_over f ps free (stretch_at frames one) bends long n) bound some is)
 
 module _ (f : FormatView) (century micros : ℕ) (ps : List Pulse) (frames : List Frame) (track : IsLongTrack micros ps) (d n : ℕ) (some : 0 < d)
     (time : Time) (bound : ℕ) (m : IsMomentBy f century ps frames d n time bound) where
@@ -98,12 +102,28 @@ pub moments_are_true : TimesAreTrue → HolesAreBounded → MomentsAreTrue
 moments_are_true times_true bridges f century micros ps frames name sent track story d n some time bound m = record {
   begins = times_true f century ps frames name sent story m.from.number m.from.point m.around.last.1.point;
   ends = times_true f century ps frames name sent story m.to.number m.to.point m.around.next.1.point;
-  passes = λ a b at bounded.
+  passes = λ a b at bounded more.
       let r = rate_of (clock_of f ps a (slack_of ps a b)) in
       let many = elements_after f century m.from.point m.to.point in
+      let bends = bends_over f ps frames m.from.number m.to.number in
       let long = long-is f century micros ps frames track d n some time bound m in
       let within = not-over f century micros ps frames track d n some time bound m in
       let is = bound-is f ps frames m.from.number m.to.number many bound bounded m.line a b at
-      ∙ ap (λ z. most_off r z (units_of many)) long in
+      ∙ ap (λ z. off_in r (strays_by f ps bends (a, b) z many) z many) long
+      ∙ ap (λ v. cond v (strays_by f ps bends (a, b) (m.next.rise - m.point.rise) many) (most_off r (m.next.rise - m.point.rise) (units_of many)))
+      (le-ltb many 100 more) in
       passes_nearly bridges f r (m.next.rise - m.point.rise) many bound d (n - d * m.point.rise) within.1 within.0 is;
+  alike = λ a b at bounded less.
+      let r = rate_of (clock_of f ps a (slack_of ps a b)) in
+      let many = elements_after f century m.from.point m.to.point in
+      let bends = bends_over f ps frames m.from.number m.to.number in
+      let longs = m.next.rise - m.point.rise in
+      let long = long-is f century micros ps frames track d n some time bound m in
+      let within = not-over f century micros ps frames track d n some time bound m in
+      let few = lt-ltb many 100 less in
+      let is = bound-is f ps frames m.from.number m.to.number many bound bounded m.line a b at
+      ∙ ap (λ z. off_in r (strays_by f ps bends (a, b) z many) z many) long
+      ∙ ap (λ v. cond v (strays_by f ps bends (a, b) longs many) (most_off r longs (units_of many))) few
+      ∙ ap (λ v. cond v (strays_over ps longs many a b - units_in f bends + 1) 0) few in
+      passes_alike f ps a b longs many (bound + units_in f bends) d (n - d * m.point.rise) some within.1 within.0 (omega (arith, is));
 }

@@ -7,8 +7,8 @@ use Rattle.irig_times.specs.Steps.{micros_between}
 use Rattle.irig_times.specs.declared.why.Why.TheVariants.{Hole, Step}
 use Rattle.irig_law.specs.{Holes.rate_of, Holes.units_of, Holes.Rate, Clocks.clock_of, Clocks.slack_of}
 use Rattle.irig_law.specs.declared.frame.Frame.{Frame}
-use Rattle.irig_timed.specs.{Apart.elements_after, Stretches.stretch_at}
-use Rattle.irig_timed.specs.Gaps.{gap_between, gap_by, gap_over, is_event, is_free, is_step, most_off, widest}
+use Rattle.irig_timed.specs.{Apart.elements_after, Bends.bends_over, Stretches.stretch_at, Windows.strays_by}
+use Rattle.irig_timed.specs.Gaps.{gap_between, gap_by, gap_over, is_event, is_free, is_step, off_in, widest}
 use Rattle.irig_timed.specs.declared.{gap.Gap.Gap, run.Place.Place}
 use Rattle.irig_timed.specs.declared.gap.Gap.TheVariants.{Line, Untimed}
 use Rattle.irig_timed.proofs.MomentFacts.{same-bound}
@@ -19,18 +19,19 @@ by-rate true w off bound low is = (let e = same-bound off bound is in let l = lo
 by-rate false true off bound low is = absurd (cc is)
 by-rate false false off bound low is = absurd (cc is)
 
-by-clock : (v free : Bool) (r : Rate) (long units bound : ℕ) → cond v (gap_by free r long units) (Untimed Hole) ≡ Line bound → bound ≤ 20000000000
-by-clock true free r long units bound is =
-    by-rate (free && nat_le (most_off r long units) widest) (is_event r long units) (most_off r long units) bound
-    (λ e. leb-true (most_off r long units) widest (and_parts _ _ e).1) is
-by-clock false free r long units bound is = absurd (cc is)
-
-by-stretch : (f : FormatView) (ps : List Pulse) (free : Bool) (s : Option (Frame × Frame)) (long n bound : ℕ) → gap_over f ps free s long n ≡ Line bound
+by-clock : (v free : Bool) (r : Rate) (off long units bound : ℕ) → cond v (gap_by free r off long units) (Untimed Hole) ≡ Line bound
     → bound ≤ 20000000000
-by-stretch f ps free None long n bound is = absurd (cc is)
-by-stretch f ps free (Some s) long n bound is =
+by-clock true free r off long units bound is =
+    by-rate (free && nat_le off widest) (is_event r long units) off bound (λ e. leb-true off widest (and_parts _ _ e).1) is
+by-clock false free r off long units bound is = absurd (cc is)
+
+by-stretch : (f : FormatView) (ps : List Pulse) (free : Bool) (s : Option (Frame × Frame)) (bends long n bound : ℕ)
+    → gap_over f ps free s bends long n ≡ Line bound → bound ≤ 20000000000
+by-stretch f ps free None bends long n bound is = absurd (cc is)
+by-stretch f ps free (Some s) bends long n bound is =
     let c = clock_of f ps s.0 (slack_of ps s.0 s.1) in
-    by-clock (nat_lt c.slack c.span) free (rate_of c) long (units_of n) bound is
+    let off = off_in (rate_of c) (strays_by f ps bends s long n) long n in
+    by-clock (nat_lt c.slack c.span) free (rate_of c) off long (units_of n) bound is
 
 by-words : (v w : Bool) (gap : Gap) (bound : ℕ) → (gap ≡ Line bound → bound ≤ 20000000000) → cond v (Line 0) (cond w (Untimed Step) gap) ≡ Line bound
     → bound ≤ 20000000000
@@ -44,5 +45,6 @@ line-low f century ps frames p q bound is =
     let n = elements_after f century p.point q.point in
     let long = micros_between ps p.number q.number in
     let free = is_free f ps p.number q.number in
-    by-words (is_step f ps p.number q.number n) (n == 0) (gap_over f ps free (stretch_at frames p.number) long n) bound
-    (by-stretch f ps free (stretch_at frames p.number) long n bound) is
+    let bends = bends_over f ps frames p.number q.number in
+    by-words (is_step f ps p.number q.number n) (n == 0) (gap_over f ps free (stretch_at frames p.number) bends long n) bound
+    (by-stretch f ps free (stretch_at frames p.number) bends long n bound) is

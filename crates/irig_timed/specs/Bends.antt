@@ -1,5 +1,5 @@
 -- How far a printed time can be off, in microseconds. This project's own.
-use Rattle.std.specs.Prelude.{ℕ, zero, suc, ◌+◌, ◌-◌, ◌/◌, ◌==◌, ◌&&◌, max, nat_lt, List, [], ◌∷◌}
+use Rattle.std.specs.Prelude.{ℕ, zero, suc, ◌+◌, ◌-◌, ◌*◌, ◌/◌, ◌==◌, ◌&&◌, max, nat_lt, List, [], ◌∷◌}
 use Rattle.std.specs.Prelude.{Option, Some, None, slice_get, if◌then◌else◌}
 use Rattle.irig_codes.specs.{Format.FormatView, Format.interval_of, Width.is_in_step}
 use Rattle.irig_recording.specs.declared.pulse.Pulse.{Pulse}
@@ -51,6 +51,10 @@ most_around f ps frames k =
 abbrev pub micros_up : FormatView → ℕ → ℕ
 micros_up f bound =
     if bound == 0 then 0 else (bound - 1) / (1000000000000 / interval_of f.kind) + 1
+
+-- the units in some microseconds of the code
+abbrev pub units_in : FormatView → ℕ → ℕ
+units_in f micros = micros * (1000000000000 / interval_of f.kind)
 
 -- the most by which time bends between two pulses: at them, or in the frames around
 abbrev pub bends_over : FormatView → List Pulse → List Frame → ℕ → ℕ → ℕ

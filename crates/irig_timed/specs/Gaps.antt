@@ -1,26 +1,26 @@
--- What is between two pulses that have a time, next to each other: a line that is nearly right, or
--- why nothing there has a time. This project's own.
+-- What is between two pulses with a time, next to each other: a line that is nearly right, or why
+-- nothing there has a time. This project's own.
 use Rattle.std.specs.Prelude.{ℕ, ◌+◌, ◌-◌, ◌*◌, ◌==◌, ◌&&◌, ◌||◌, nat_le, nat_lt, max, Bool, not}
 use Rattle.std.specs.Prelude.{List, Option, Some, None, if◌then◌else◌}
 use Rattle.irig_codes.specs.{Format.FormatView, Width.is_in_step}
 use Rattle.irig_recording.specs.declared.pulse.Pulse.{Pulse}
 use Rattle.irig_times.specs.Steps.{micros_between}
 use Rattle.irig_times.specs.declared.why.Why.TheVariants.{After, Before, Hole, Step}
-use Rattle.irig_law.specs.{Holes.rate_of, Holes.units_of, Holes.Rate}
-use Rattle.irig_law.specs.{Clocks.clock_of, Clocks.slack_of, OfOne.any_from, Rows.is_clean}
+use Rattle.irig_law.specs.{Clocks.clock_of, Clocks.slack_of, Holes.rate_of, Holes.units_of}
+use Rattle.irig_law.specs.{Holes.Rate, OfOne.any_from, Rows.is_clean}
 use Rattle.irig_law.specs.{declared.clock.Clock.Clock, declared.frame.Frame.Frame}
-use Rattle.irig_timed.specs.{Apart.elements_after, Stretches.stretch_at}
+use Rattle.irig_timed.specs.{Apart.elements_after, Bends.bends_over, Stretches.stretch_at}
+use Rattle.irig_timed.specs.Windows.{strays_by}
 use Rattle.irig_timed.specs.declared.gap.Gap.{Gap}
 use Rattle.irig_timed.specs.declared.gap.Gap.TheVariants.{Line, Untimed}
 use Rattle.irig_timed.specs.declared.run.Place.{Place}
 
--- Between two pulses some units of the code pass by their times, and by the clock some at
--- least and some at most. By how far these differ the line between the two can be off, wherever
--- something was lost, and by one for the rounding.
+-- Some units of the code pass by the times of two pulses, and by a clock some at least and at most.
+-- By how far these differ the line can be off, wherever something was lost; one is for the rounding.
 abbrev pub most_off : Rate → ℕ → ℕ → ℕ
 most_off r long units = max (r.most * long - units) (units - r.least * long) + 1
 
--- units are trillionths of an interval: a time has no greater bound than a fiftieth of one
+-- a fiftieth of an interval
 abbrev pub widest : ℕ
 widest = 20000000000
 
@@ -31,23 +31,28 @@ is_event r long units =
     || nat_lt (units + 500000000000) (r.least * long)
 
 -- there can be a line if the gap is free
-abbrev pub gap_by : Bool → Rate → ℕ → ℕ → Gap
-gap_by free r long units =
-    if free && nat_le (most_off r long units) widest then Line (most_off r long units)
+abbrev pub gap_by : Bool → Rate → ℕ → ℕ → ℕ → Gap
+gap_by free r off long units =
+    if free && nat_le off widest then Line off
     else (if is_event r long units then Untimed Step else Untimed Hole)
 
-abbrev pub gap_in : Bool → Clock → ℕ → ℕ → Gap
-gap_in free c long n =
-    if nat_lt c.slack c.span then gap_by free (rate_of c) long (units_of n) else Untimed Hole
+-- Up to 99 elements it is off by what rises stray: a frame has no more intervals.
+abbrev pub off_in : Rate → ℕ → ℕ → ℕ → ℕ
+off_in r strays long n = if nat_lt n 100 then strays else most_off r long (units_of n)
+
+abbrev pub gap_in : Bool → Clock → ℕ → ℕ → ℕ → Gap
+gap_in free c strays long n =
+    if nat_lt c.slack c.span
+    then gap_by free (rate_of c) (off_in (rate_of c) strays long n) long (units_of n)
+    else Untimed Hole
 
 -- the same by the clock of the frames around; at an end of the recording none are
-abbrev pub gap_over : FormatView → List Pulse → Bool → Option (Frame × Frame) → ℕ → ℕ → Gap
-gap_over f ps free None long n = Untimed Hole
-gap_over f ps free (Some s) long n =
-    gap_in free (clock_of f ps s.0 (slack_of ps s.0 s.1)) long n
+abbrev pub gap_over : FormatView → List Pulse → Bool → Option (Frame × Frame) → ℕ → ℕ → ℕ → Gap
+gap_over f ps free None bends long n = Untimed Hole
+gap_over f ps free (Some s) bends long n =
+    gap_in free (clock_of f ps s.0 (slack_of ps s.0 s.1)) (strays_by f ps bends s long n) long n
 
--- A gap is free if no pulse in it is clean: one without a time that the two before it and the two
--- after it are in step with shows something else than the line.
+-- a gap is free if no pulse in it is clean: one without a time would show something else
 abbrev pub is_free : FormatView → List Pulse → ℕ → ℕ → Bool
 is_free f ps one other = not (any_from (is_clean f ps) (one + 1) (other - (one + 1)))
 
@@ -62,7 +67,7 @@ gap_of f ps frames one other n =
     if is_step f ps one other n then Line 0
     else (if n == 0 then Untimed Step
     else gap_over f ps (is_free f ps one other) (stretch_at frames one)
-    (micros_between ps one other) n)
+    (bends_over f ps frames one other) (micros_between ps one other) n)
 
 abbrev pub gap_between : FormatView → ℕ → List Pulse → List Frame → Place → Place → Gap
 gap_between f century ps frames p q =

@@ -1,3 +1,4 @@
+pub mod Alike
 pub mod Apart
 pub mod Around
 pub mod Bends
@@ -15,3 +16,4 @@ pub mod Stretches
 pub mod Surroundings
 pub mod TrueMoments
 pub mod Truths
+pub mod Windows

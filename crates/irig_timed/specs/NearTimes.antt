@@ -8,8 +8,9 @@ use Rattle.irig_track.specs.Track.{IsLongTrack}
 use Rattle.irig_law.specs.{Holes.rate_of, Holes.units_of, Holes.Hole, Clocks.clock_of}
 use Rattle.irig_law.specs.{Clocks.slack_of, Hop.Within, Hours.hour_micros, Printed.true_time}
 use Rattle.irig_law.specs.{Theorem.Story, declared.frame.Frame.Frame}
-use Rattle.irig_timed.specs.{Apart.elements_after, Bends.bends_over, Bends.off_over}
-use Rattle.irig_timed.specs.{Moments.IsMomentBy, Stretches.stretch_at, Truths.units_in}
+use Rattle.irig_timed.specs.{Alike.HoleAs, Apart.elements_after, Bends.bends_over}
+use Rattle.irig_timed.specs.{Bends.off_over, Bends.units_in, Moments.IsMomentBy}
+use Rattle.irig_timed.specs.Stretches.{stretch_at}
 
 -- A time is in the hour of another one, and some code after it, to some microseconds. What passed
 -- is in units / d.
@@ -32,12 +33,18 @@ pub record IsBefore (f : FormatView) (d off : ℕ) (end : Time) (left : ℕ) (ti
   pub late : d * units_in f (hour_micros end) ≤ d * units_in f (hour_micros time + off) + left
 
 -- `passed` is the code that passed up to each microsecond / d after the first of the two pulses of
--- a moment. In a hole the clock ran at its rate, but for one event at most. Between two pulses one
--- element apart it ran evenly, to what time bends there.
+-- a moment. In a hole of up to 99 elements the clock ran as in the frames around, and in a longer
+-- one at their rate, but for one event at most. Between two pulses one element apart it ran evenly,
+-- to what time bends there.
 pub record Passes (f : FormatView) (century : ℕ) (ps : List Pulse) (frames : List Frame)
     (d n : ℕ) (time : Time) (bound : ℕ) (m : IsMomentBy f century ps frames d n time bound)
     (passed : ℕ → ℕ) : Type 0 where
-  pub hole : (a b : Frame) → stretch_at frames m.from.number ≡ Some (a, b) → 0 < bound
+  pub short : (a b : Frame) → stretch_at frames m.from.number ≡ Some (a, b) → 0 < bound
+      → elements_after f century m.from.point m.to.point < 100
+      → HoleAs ps a b (elements_after f century m.from.point m.to.point) d
+      (m.next.rise - m.point.rise) passed
+  pub long : (a b : Frame) → stretch_at frames m.from.number ≡ Some (a, b) → 0 < bound
+      → 100 ≤ elements_after f century m.from.point m.to.point
       → Hole (rate_of (clock_of f ps a (slack_of ps a b))) (d * (m.next.rise - m.point.rise))
       (d * units_of (elements_after f century m.from.point m.to.point)) passed
   pub even : bound ≡ 0

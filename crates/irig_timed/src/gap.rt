@@ -4,13 +4,16 @@
 ghost use Rattle.std.specs.Prelude.{◌≡◌, ◌<◌, ◌≤◌, ◌+◌, ◌^◌, IfSome, Some, length};
 ghost use Rattle.irig_law.specs.{Holes.rate_of, Holes.units_of};
 ghost use Rattle.irig_timed.specs.Gaps.{gap_at, gap_between, gap_by, gap_in, gap_of, gap_over};
-ghost use Rattle.irig_timed.specs.Gaps.{is_event, is_step, most_off};
+ghost use Rattle.irig_timed.specs.Gaps.{is_event, is_step, most_off, off_in};
+ghost use Rattle.irig_timed.specs.{Bends.bends_over, Windows.strays_by};
 ghost use Rattle.irig_timed.specs.Stretches.{AreFramesOf, stretch_at};
 
 use crate::apart::elements_after;
 use crate::clean::is_free;
+use crate::off::bends_over;
 use crate::run::Place;
 use crate::stretch::stretch_at;
+use crate::window::strays_by;
 use irig_codes::{Format, in_step};
 use irig_law::{Clock, Frame, clock_between, micros_between};
 use irig_times::Why;
@@ -21,6 +24,9 @@ const UNITS: u128 = 1_000_000_000_000;
 
 /// The greatest bound of a time: a fiftieth of an interval.
 const WIDEST: u128 = 20_000_000_000;
+
+/// The elements of a frame.
+const FEW: u64 = 100;
 
 /// Half an interval.
 const HALF: u128 = 500_000_000_000;
@@ -100,12 +106,14 @@ fn gap_of(
         return Gap::Untimed(Why::Step);
     }
     let free = is_free(pulses, format, one, other);
+    let bends = bends_over(pulses, frames, format, one, other);
     let long = micros_between(pulses, one, other);
     gap_over(
         pulses,
         format,
         free,
         stretch_at(frames, one),
+        bends,
         long,
         elements,
     )
@@ -120,48 +128,65 @@ fn is_step(pulses: &mut Lens<'_>, format: Format, one: usize, other: usize, elem
     other == one + 1 && elements == 1 && in_step(format, micros_between(pulses, one, other))
 }
 
-/// The same by the clock of the two frames around; `free` is whether a line can be there.
+/// The same by the clock of the two frames around; `free` is whether a line can be there, and
+/// `bends` by how much time bends there.
 fn gap_over(
     pulses: &mut Lens<'_>,
     format: Format,
     free: bool,
     stretch: Option<(Frame, Frame)>,
+    bends: u64,
     long: u64,
     elements: u64,
 ) -> Gap
     requires stretch { IfSome stretch (λ s. (s.0.marker < 2 ^ 26) × (s.1.marker < 2 ^ 26)) }
-    requires small { (long ≤ 2 ^ 40) × (elements < 2 ^ 48) }
-    ensures gap { result ≡ gap_over format pulses.old.track.pulses free stretch long elements }
+    requires small { (bends ≤ 2 ^ 40) × (long ≤ 2 ^ 40) × (elements < 2 ^ 48) }
+    ensures gap { result
+        ≡ gap_over format pulses.old.track.pulses free stretch bends long elements }
     ensures pulses { pulses.new.track ≡ pulses.old.track }
 {
     match stretch {
         Some(stretch) => {
             let clock = clock_between(pulses, format, &stretch.0, &stretch.1);
-            gap_in(free, &clock, long, elements)
+            let strays = strays_by(pulses, format, bends, &stretch, long, elements);
+            gap_in(free, &clock, strays, long, elements)
         }
         None => Gap::Untimed(Why::Hole),
     }
 }
 
-/// The same by a clock.
-fn gap_in(free: bool, clock: &Clock, long: u64, elements: u64) -> Gap
-    requires { (clock.now.span ≤ 2 ^ 40) × (long ≤ 2 ^ 40) × (elements < 2 ^ 48) }
-    ensures { result ≡ gap_in free clock.now long elements }
+/// The same by a clock, and by how much rises stray.
+fn gap_in(free: bool, clock: &Clock, strays: u128, long: u64, elements: u64) -> Gap
+    requires clock { (clock.now.span ≤ 2 ^ 40) × (strays < 2 ^ 96) }
+    requires small { (long ≤ 2 ^ 40) × (elements < 2 ^ 48) }
+    ensures { result ≡ gap_in free clock.now strays long elements }
 {
     if clock.span <= clock.slack {
         return Gap::Untimed(Why::Hole);
     }
     let least = 99 * UNITS / (clock.span as u128 + clock.slack as u128);
     let most = 99 * UNITS / (clock.span - clock.slack) as u128 + 1;
-    gap_by(free, least, most, long as u128, elements as u128 * UNITS)
+    let long = long as u128;
+    let off = off_in(least, most, strays, long, elements);
+    gap_by(free, least, most, off, long, elements as u128 * UNITS)
+}
+
+/// By how many units the line can be off.
+fn off_in(least: u128, most: u128, strays: u128, long: u128, elements: u64) -> u128
+    requires { (least < 2 ^ 48) × (most < 2 ^ 48) × (long ≤ 2 ^ 40) × (elements < 2 ^ 48) }
+    ensures { result ≡ off_in (record { least = least; most = most }) strays long elements }
+{
+    if elements < FEW {
+        return strays;
+    }
+    most_off(least, most, long, elements as u128 * UNITS)
 }
 
 /// The same, if at least `least` and at most `most` units of the code pass in a microsecond.
-fn gap_by(free: bool, least: u128, most: u128, long: u128, units: u128) -> Gap
+fn gap_by(free: bool, least: u128, most: u128, off: u128, long: u128, units: u128) -> Gap
     requires { (least < 2 ^ 48) × (most < 2 ^ 48) × (long ≤ 2 ^ 40) × (units < 2 ^ 96) }
-    ensures { result ≡ gap_by free (record { least = least; most = most }) long units }
+    ensures { result ≡ gap_by free (record { least = least; most = most }) off long units }
 {
-    let off = most_off(least, most, long, units);
     if free && off <= WIDEST {
         Gap::Line(off as u64)
     } else if is_event(least, most, long, units) {
@@ -171,7 +196,7 @@ fn gap_by(free: bool, least: u128, most: u128, long: u128, units: u128) -> Gap
     }
 }
 
-/// By how many units the line can be off.
+/// The same of a clock at some rate.
 fn most_off(least: u128, most: u128, long: u128, units: u128) -> u128
     requires { (least < 2 ^ 48) × (most < 2 ^ 48) × (long ≤ 2 ^ 40) × (units < 2 ^ 96) }
     ensures { result ≡ most_off (record { least = least; most = most }) long units }

@@ -13,6 +13,7 @@ mod moment;
 mod off;
 mod run;
 mod stretch;
+mod window;
 
 pub use gap::Gap;
 pub use held::held_frames;

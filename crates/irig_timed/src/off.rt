@@ -2,8 +2,9 @@
 
 ghost use Rattle.std.specs.Prelude.{◌≡◌, ◌+◌, ◌<◌, ◌≤◌, ◌^◌, ℕ, Bool, List, IfSome, max};
 ghost use Rattle.irig_law.specs.declared.frame.Frame.{Frame};
-ghost use Rattle.irig_timed.specs.Bends.{bend_at, bend_of, micros_up, most_around, most_in};
-ghost use Rattle.irig_timed.specs.{Bends.most_within, Bends.off_over, Knowns.IsKnownBy};
+ghost use Rattle.irig_timed.specs.Bends.{bend_at, bend_of, bends_over, micros_up};
+ghost use Rattle.irig_timed.specs.Bends.{most_around, most_in, most_within, off_over};
+ghost use Rattle.irig_timed.specs.{Knowns.IsKnownBy};
 ghost use Rattle.irig_timed.specs.Stretches.{AreFramesOf};
 
 use crate::known::Known;
@@ -33,19 +34,28 @@ pub fn off_of(pulses: &mut Lens<'_>, known: &Known, format: Format, moment: &Mom
 {
     // The call's contract bounds the track.
     let _count = pulses.len();
-    let most = most_around(pulses, &known.frames, format, moment.from);
-    let one = bend_at(pulses, format, moment.from);
-    let other = bend_at(pulses, format, moment.to);
-    off_by(format, moment.bound, most, one, other)
+    let bends = bends_over(pulses, &known.frames, format, moment.from, moment.to);
+    micros_up(format, moment.bound) + bends + ROUNDED
 }
 
-/// The same by a bound and by what time bends: in the frames around, and at the two pulses.
-fn off_by(format: Format, bound: u64, most: u64, one: u64, other: u64) -> u64
-    requires bound { bound ≤ 20000000000 }
-    requires bends { (most ≤ 2 ^ 40) × (one ≤ 2 ^ 40) × (other ≤ 2 ^ 40) }
-    ensures { result ≡ micros_up format bound + max most (max one other) + 2 }
+/// The most by which time bends between two pulses: in the frames around, and at the two.
+pub fn bends_over(
+    pulses: &mut Lens<'_>,
+    frames: &[Frame],
+    format: Format,
+    one: usize,
+    other: usize,
+) -> u64
+    requires frames { AreFramesOf frames.now }
+    requires low { (one < 2 ^ 27) × (other < 2 ^ 27) }
+    ensures bends { result ≡ bends_over format pulses.old.track.pulses frames.now one other }
+    ensures low { result ≤ 2 ^ 40 }
+    ensures pulses { pulses.new.track ≡ pulses.old.track }
 {
-    micros_up(format, bound) + most.max(one.max(other)) + ROUNDED
+    let most = most_around(pulses, frames, format, one);
+    let first = bend_at(pulses, format, one);
+    let last = bend_at(pulses, format, other);
+    greater(most, greater(first, last))
 }
 
 /// The microseconds of a bound, rounded up.
