@@ -1,5 +1,5 @@
 """Kinds of recordings that are made to attack a definition of what a time is: two events near each other, blocks out of order, elements
-that are stuck, clocks that are set and set back. Each has what is done before anything is sent, and what after it.
+that are stuck, clocks that are set and set back, fast wow in holes. Each has what is done before anything is sent, and what after it.
 """
 from __future__ import annotations
 
@@ -7,6 +7,7 @@ import math
 from typing import TYPE_CHECKING, Callable, Dict, Tuple
 
 from sent import HOUR, MINUTE, SECOND, Calendar, Run, Sender, digits, has_binary_seconds
+from tape import Clock, Wave
 
 if TYPE_CHECKING:
     from recordings import Draft
@@ -158,7 +159,30 @@ def stuck(draft: Draft) -> None:
     draft.says.append("element %d is stuck at %d for %d frames from %d on" % (element, value, many, first))
 
 
+def fast_wow(draft: Draft) -> None:
+    """The clock goes 0.05 to 0.5 % faster and slower, in waves of 6 to 200 intervals."""
+    period = between(draft, 6, 200) * draft.format.interval
+    draft.clock = Clock(draft.clock.fast, 0.0, [Wave(between(draft, 0.0005, 0.005), period, draft.random.uniform(0, 2 * math.pi))])
+
+
+def between(draft: Draft, least: float, most: float) -> float:
+    """Any number, as often below the geometric mean of the two as above it."""
+    return math.exp(draft.random.uniform(math.log(least), math.log(most)))
+
+
+def six_holes(draft: Draft) -> None:
+    """Holes of 2 to 60 elements, one in each sixth; in seven of ten the recorder loses or stops for up to 0.03 intervals."""
+    for number in range(6):
+        place = draft.clock.place(draft.first) + (number + draft.random.uniform(0.1, 0.7)) / 6 * draft.length
+        long = between(draft, 2, 60) * draft.format.interval
+        draft.silence(place, place + long)
+        if draft.random.random() < 0.7:
+            amount = draft.random.uniform(0, 0.03) * draft.format.interval
+            draft.event(draft.random.choice(("lose", "wait")), place + draft.random.random() * long, amount)
+
+
 KINDS: Dict[str, Tuple[Callable[[Draft], None], Callable[[Draft], None]]] = {
     "swapped": (longer, swapped), "replaced": (longer, replaced), "returned": (longer, returned), "repeated": (longer, repeated),
     "near": (longer, near), "sparse": (longer, sparse), "stops": (longer, stops), "back": (set_back, nothing),
-    "setend": (set_near_end, damage_there), "unheard": (set_unheard, hole_there), "stuck": (stuck, nothing)}
+    "setend": (set_near_end, damage_there), "unheard": (set_unheard, hole_there), "stuck": (stuck, nothing),
+    "fastwow": (fast_wow, six_holes)}
