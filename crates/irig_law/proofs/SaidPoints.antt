@@ -32,24 +32,24 @@ module _ (ps : List Pulse) (frames : List Frame) where
       let sum : i + (j - i) ≡ j = omega (arith, le) in in-order ps frames are i (j - i) p q at (ap (λ (j : ℕ). slice_get frames j) sum ∙ at_too)
 
   -- where parts begin
-  pub begins-at : (n : ℕ) (a : Frame) → slice_get frames n ≡ Some a → part_begin ps frames (n + 1) ≡ a.marker
-  begins-at n a at = let e : n + 1 ≡ suc n = omega arith in ap (part_begin ps frames) e ∙ ap (marker_or (length ps)) at
+  pub begins-at : (n : ℕ) (a : Frame) → slice_get frames n ≡ Some a → part_begin (length ps) frames (n + 1) ≡ a.marker
+  begins-at n a at = let e : n + 1 ≡ suc n = omega arith in ap (part_begin (length ps) frames) e ∙ ap (marker_or (length ps)) at
 
-  begins-last : (n : ℕ) → slice_get frames n ≡ None → part_begin ps frames (n + 1) ≡ length ps
-  begins-last n none = let e : n + 1 ≡ suc n = omega arith in ap (part_begin ps frames) e ∙ ap (marker_or (length ps)) none
+  begins-last : (n : ℕ) → slice_get frames n ≡ None → part_begin (length ps) frames (n + 1) ≡ length ps
+  begins-last n none = let e : n + 1 ≡ suc n = omega arith in ap (part_begin (length ps) frames) e ∙ ap (marker_or (length ps)) none
 
-  pub begins-end : part_begin ps frames (length frames + 1) ≡ length ps
+  pub begins-end : part_begin (length ps) frames (length frames + 1) ≡ length ps
   begins-end = begins-last (length frames) (slice_get_past frames (length frames) (omega arith))
 
   -- a part begins before the frame after it
-  begins-low : AreFrames ps frames → (n : ℕ) (a : Frame) → slice_get frames n ≡ Some a → part_begin ps frames n ≤ a.marker
+  begins-low : AreFrames ps frames → (n : ℕ) (a : Frame) → slice_get frames n ≡ Some a → part_begin (length ps) frames n ≤ a.marker
   begins-low are zero a at = omega arith
   begins-low are (suc n) a at =
       let inside = slice_get_within frames (suc n) a at in
       let there = slice_get-get_or frames n a (omega (arith, inside)) in
       let next : n + 1 ≡ suc n = omega arith in
       let low = are.order n (get_or frames n a) a there (ap (λ (j : ℕ). slice_get frames j) next ∙ at) in
-      let begin : part_begin ps frames (suc n) ≡ (get_or frames n a).marker = ap (marker_or (length ps)) there in
+      let begin : part_begin (length ps) frames (suc n) ≡ (get_or frames n a).marker = ap (marker_or (length ps)) there in
       omega (arith, low, begin)
 
   -- and where it ends
@@ -57,14 +57,14 @@ module _ (ps : List Pulse) (frames : List Frame) where
   begins-in are n None none = omega arith
   begins-in are n (Some a) at = let inside = are.inside n a at in omega (arith, inside)
 
-  pub begins-inside : AreFrames ps frames → (n : ℕ) → part_begin ps frames n ≤ length ps
+  pub begins-inside : AreFrames ps frames → (n : ℕ) → part_begin (length ps) frames n ≤ length ps
   begins-inside are zero = omega arith
   begins-inside are (suc n) = begins-in are n (slice_get frames n) refl
 
-  pub begins-rise : AreFrames ps frames → (n : ℕ) → part_begin ps frames n ≤ part_begin ps frames (n + 1)
+  pub begins-rise : AreFrames ps frames → (n : ℕ) → part_begin (length ps) frames n ≤ part_begin (length ps) frames (n + 1)
   begins-rise are n = go (slice_get frames n) refl
     where
-      go : (o : Option Frame) → slice_get frames n ≡ o → part_begin ps frames n ≤ part_begin ps frames (n + 1)
+      go : (o : Option Frame) → slice_get frames n ≡ o → part_begin (length ps) frames n ≤ part_begin (length ps) frames (n + 1)
       go None none = let all = begins-last n none in let inside = begins-inside are n in omega (arith, all, inside)
       go (Some a) at = let begin = begins-at n a at in let low = begins-low are n a at in omega (arith, begin, low)
 

@@ -65,6 +65,6 @@ times_true f century ps frames name sent story k x is = point_true f century ps 
 -- so are those of the points of a part
 pub part_true : (f : FormatView) (century : ℕ) (ps : List Pulse) (frames : List Frame) (part : ℕ) (p : Points)
     → ArePoints f century ps frames part p → (name : ℕ → ℕ) (sent : ℕ → Fields) → Story f century ps frames name sent → (k : ℕ) (x : Point)
-    → part_begin ps frames part ≤ k → k < part_begin ps frames (part + 1) → Knows p k x → printed f x ≡ true_time f sent (name k)
+    → part_begin (length ps) frames part ≤ k → k < part_begin (length ps) frames (part + 1) → Knows p k x → printed f x ≡ true_time f sent (name k)
 part_true f century ps frames part p points name sent story k x low high known =
     times_true f century ps frames name sent story k x ((points k x low high).0 known)

@@ -10,14 +10,14 @@ use Rattle.irig_law.specs.declared.point.Point.{Point}
 use Rattle.irig_law.specs.declared.points.Points.{Points}
 
 -- The believed frames cut a recording into parts, which do not overlap: part 0 begins with the
--- first pulse, and each other one with the marker of a frame. After the last part are all pulses.
+-- first pulse, and each other one with the marker of a frame. After the last part are `all` pulses.
 abbrev pub marker_or : ℕ → Option Frame → ℕ
-marker_or n None = n
-marker_or n (Some a) = a.marker
+marker_or all None = all
+marker_or all (Some a) = a.marker
 
-abbrev pub part_begin : List Pulse → List Frame → ℕ → ℕ
-part_begin ps frames zero = 0
-part_begin ps frames (suc i) = marker_or (length ps) (slice_get frames i)
+abbrev pub part_begin : ℕ → List Frame → ℕ → ℕ
+part_begin all frames zero = 0
+part_begin all frames (suc i) = marker_or all (slice_get frames i)
 
 -- one after the last pulse that some points have
 abbrev pub points_end : Points → ℕ
@@ -44,10 +44,10 @@ pub record AreSaid (f : FormatView) (century : ℕ) (ps : List Pulse) (frames : 
   pub there : slice_get frames n ≡ Some last
   pub from : p.from ≤ last.marker
   pub long : points_end p ≡ last.marker + time_elements f.kind
-  pub said : (k : ℕ) (x : Point) → part_begin ps frames n ≤ k → k < points_end p
+  pub said : (k : ℕ) (x : Point) → part_begin (length ps) frames n ≤ k → k < points_end p
       → Knows p k x ↔ IsSaid f century ps frames (n + 1) k x
 
 -- of each pulse of part n they have the element that it is
 abbrev pub ArePoints : FormatView → ℕ → List Pulse → List Frame → ℕ → Points → Type 0
-ArePoints f century ps frames n p = (k : ℕ) (x : Point) → part_begin ps frames n ≤ k
-    → k < part_begin ps frames (n + 1) → Knows p k x ↔ IsPoint f century ps frames k x
+ArePoints f century ps frames n p = (k : ℕ) (x : Point) → part_begin (length ps) frames n ≤ k
+    → k < part_begin (length ps) frames (n + 1) → Knows p k x ↔ IsPoint f century ps frames k x

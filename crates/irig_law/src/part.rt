@@ -20,9 +20,9 @@ use irig_track::Lens;
 use std::alloc::{AllocError, Global};
 
 /// The number of the pulse that a part begins with: the marker of the frame before it. After the
-/// last part it is how many pulses there are.
-pub fn part_begin(pulses: &Lens<'_>, frames: &[Frame], part: usize) -> usize
-    ensures { result ≡ part_begin pulses.now.track.pulses frames.now part }
+/// last part are `all` pulses.
+pub fn part_begin(frames: &[Frame], part: usize, all: usize) -> usize
+    ensures { result ≡ part_begin all frames.now part }
 {
     if part == 0 {
         return 0;
@@ -30,7 +30,7 @@ pub fn part_begin(pulses: &Lens<'_>, frames: &[Frame], part: usize) -> usize
     if part <= frames.len() {
         frame_at(frames, part - 1).marker
     } else {
-        pulses.len()
+        all
     }
 }
 
@@ -60,11 +60,13 @@ pub fn part_points(
         ArePoints format century pulses.old.track.pulses frames.now part p) }
     ensures true_times { IfOk result (λ p. (name : ℕ → ℕ) (sent : ℕ → Fields)
         → Story format century pulses.old.track.pulses frames.now name sent
-        → (k : ℕ) (x : Point) → part_begin pulses.old.track.pulses frames.now part ≤ k
-        → k < part_begin pulses.old.track.pulses frames.now (part + 1)
+        → (k : ℕ) (x : Point) → part_begin (length pulses.old.track.pulses) frames.now part ≤ k
+        → k < part_begin (length pulses.old.track.pulses) frames.now (part + 1)
         → Knows p k x → printed format x ≡ true_time format sent (name k)) }
     ensures pulses { pulses.new.track ≡ pulses.old.track }
 {
+    // For the proof alone: the call promises how many pulses there can be.
+    let _count = pulses.len();
     if frames.is_empty() {
         return Ok(Points::none(alloc));
     }
@@ -87,12 +89,11 @@ fn first_points(
 ) -> Result<Points, AllocError>
     requires frames { AreFrames pulses.old.track.pulses frames.now }
     requires some { 0 < length frames.now }
+    requires few { length pulses.old.track.pulses ≤ 2 ^ 26 }
     ensures said { IfOk result (λ p. (century : ℕ)
         → AreSaid format century pulses.old.track.pulses frames.now 0 p) }
     ensures pulses { pulses.new.track ≡ pulses.old.track }
 {
-    // For the proof alone: the call promises how many pulses there can be.
-    let _count = pulses.len();
     let first = frame_at(frames, 0);
     let points = begin_points(alloc, pulses, format, &first)?;
     Ok(points)
@@ -111,14 +112,13 @@ fn middle_points(
     requires century { century ≤ 99 }
     requires frames { AreFrames pulses.old.track.pulses frames.now }
     requires part { (0 < part) × (part < length frames.now) }
+    requires few { length pulses.old.track.pulses ≤ 2 ^ 26 }
     requires before { AreSaid format century pulses.old.track.pulses frames.now (part - 1)
         before.now }
     ensures said { IfOk result (λ p.
         AreSaid format century pulses.old.track.pulses frames.now part p) }
     ensures pulses { pulses.new.track ≡ pulses.old.track }
 {
-    // For the proof alone: the call promises how many pulses there can be.
-    let _count = pulses.len();
     let from = frame_at(frames, part - 1);
     let to = frame_at(frames, part);
     let list = stretch_points(alloc, pulses, format, century, &from, &to)?;
@@ -135,6 +135,7 @@ fn last_points(
 ) -> Result<Points, AllocError>
     requires frames { AreFrames pulses.old.track.pulses frames.now }
     requires some { 0 < length frames.now }
+    requires few { length pulses.old.track.pulses ≤ 2 ^ 26 }
     requires before { (century : ℕ) × AreSaid format century pulses.old.track.pulses frames.now
         (length frames.now - 1) before.now }
     ensures points { IfOk result (λ p. (century : ℕ)
@@ -143,8 +144,6 @@ fn last_points(
         → ArePoints format century pulses.old.track.pulses frames.now (length frames.now) p) }
     ensures pulses { pulses.new.track ≡ pulses.old.track }
 {
-    // For the proof alone: the call promises how many pulses there can be.
-    let _count = pulses.len();
     let last = frame_at(frames, frames.len() - 1);
     let list = end_points(alloc, pulses, format, &last)?;
     Ok(joined(list, last.marker, before))

@@ -1,5 +1,5 @@
 -- What the runs say of each pulse, pulse by pulse.
-use Rattle.std.proofs.Common.{◌≡◌, inl, inr, ◌<◌, ◌≤◌, ◌+◌, ℕ, true, cond, List, [], slice_get, Option, Some, None, arith, sym, ap, ◌∙◌, subst}
+use Rattle.std.proofs.Common.{◌≡◌, inl, inr, ◌<◌, ◌≤◌, ◌+◌, ℕ, true, cond, List, [], length, slice_get, Option, Some, None, arith, sym, ap, ◌∙◌, subst}
 use Rattle.std.specs.Prelude.{◌↔◌}
 use Rattle.std.proofs.lemmas.Bool.{cases_Bool, cases_eq, cases_lt}
 use Rattle.std.proofs.lemmas.Option.{none-some}
@@ -83,16 +83,16 @@ Has f century ps frames runs n = (k : ℕ) (x : Point) → IsIn runs k x ↔ ((k
 -- with those of a part
 pub part-more : (f : FormatView) (century : ℕ) (ps : List Pulse) (frames : List Frame) (part : ℕ) (p : Points) (old new : List Run)
     → ArePoints f century ps frames part p
-    → AreWith f ps old new p (part_begin ps frames part) (part_begin ps frames (part + 1))
-    → part_begin ps frames part ≤ part_begin ps frames (part + 1)
-    → Has f century ps frames old (part_begin ps frames part) → Has f century ps frames new (part_begin ps frames (part + 1))
-part-more f century ps frames part p old new points added rise before k x = elim (cases_lt k (part_begin ps frames part)) [
+    → AreWith f ps old new p (part_begin (length ps) frames part) (part_begin (length ps) frames (part + 1))
+    → part_begin (length ps) frames part ≤ part_begin (length ps) frames (part + 1)
+    → Has f century ps frames old (part_begin (length ps) frames part) → Has f century ps frames new (part_begin (length ps) frames (part + 1))
+part-more f century ps frames part p old new points added rise before k x = elim (cases_lt k (part_begin (length ps) frames part)) [
   | inl early ↦ (let other = added.others k x early in let was = before k x in (
     λ a. (let h = was.0 (other.0 a) in (omega (arith, early, rise), h.1)),
     λ h. other.1 (was.1 (early, h.1)),
   ))
   | inr late ↦ (
-    λ a. (let below = (in-low f ps (part_begin ps frames (part + 1)) new added.runs k x a).0 in
+    λ a. (let below = (in-low f ps (part_begin (length ps) frames (part + 1)) new added.runs k x a).0 in
         let h = (added.here k x late below).0 a in
         (below, record { point = (points k x late below).0 h.0; hour = kept-hour f x h.1 })),
     λ h. (added.here k x late h.0).1 ((points k x late h.0).1 h.1.point, hour-kept f x h.1.hour),

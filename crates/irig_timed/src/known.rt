@@ -78,14 +78,13 @@ fn track_runs(
         ↔ IsElement format century pulses.old.track.pulses frames.now k x) }
     ensures pulses { pulses.new.track ≡ pulses.old.track }
 {
-    // For the proof alone: the call promises how many pulses there can be.
-    let _count = pulses.len();
+    let all = pulses.len();
     let mut runs = Vec::new(alloc);
     let mut points = Points::none(alloc);
     for part in 0..frames.len() + 1 {
         points = part_points(alloc, pulses, frames, format, century, part, &points)?;
-        let from = part_begin(pulses, frames, part);
-        let to = part_begin(pulses, frames, part + 1);
+        let from = part_begin(frames, part, all);
+        let to = part_begin(frames, part + 1, all);
         add_points(&mut runs, pulses, format, &points, from, to)?;
     }
     Ok(runs)

@@ -8,7 +8,7 @@ begin_points-requires c =
     let inside = are.inside 0 c.frame_at-first.result c.frame_at-first.ensures in
     record {
       minute = are.minute 0 c.frame_at-first.result c.frame_at-first.ensures;
-      inside = omega (arith, inside, c.len-count.ensures.track.few);
+      inside = omega (arith, inside, c.requires.few);
     }
 
 pub returns-clause-said : goal.returns-clause-said

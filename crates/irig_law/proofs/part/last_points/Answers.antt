@@ -29,7 +29,7 @@ joined-requires c =
     record {
       from = (from, omega (arith, long));
       long = omega (arith, long, many, inside, few);
-      small = omega (arith, long, inside, few, c.len-count.ensures.track.few);
+      small = omega (arith, long, inside, few, c.requires.few);
     }
 
 pub returns-clause-points : goal.returns-clause-points

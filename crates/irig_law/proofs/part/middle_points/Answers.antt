@@ -17,7 +17,7 @@ stretch_points-requires-clause-order c =
     let inside = are.inside c.args.part c.frame_at-to.result c.frame_at-to.ensures in (
       are.order (c.args.part - 1) c.frame_at-from.result c.frame_at-to.result c.frame_at-from.ensures
           (ap (λ (j : ℕ). slice_get c.args.frames.now j) next ∙ c.frame_at-to.ensures),
-      omega (arith, inside, c.len-count.ensures.track.few),
+      omega (arith, inside, c.requires.few),
     )
 
 pub joined-requires : goal.joined-requires
@@ -39,7 +39,7 @@ joined-requires c =
     record {
       from = (from, omega (arith, long));
       long = omega (arith, long, many, order);
-      small = omega (arith, long, order, inside, few, c.len-count.ensures.track.few);
+      small = omega (arith, long, order, inside, few, c.requires.few);
     }
 
 pub returns-clause-said : goal.returns-clause-said

@@ -30,13 +30,13 @@ loop-part-preserved c =
     let new = c.add_points.new.list.items in
     let same : c.loop-part.pulses.track.pulses ≡ ps = ap (λ t. t.pulses) inv.track in
     let after = ap (λ t. t.pulses) c.in_ok-points.ensures.pulses ∙ same in
-    let from = c.part_begin-from.ensures ∙ ap (λ (q : List Pulse). part_begin q frames part) after in
-    let to = c.part_begin-to.ensures ∙ ap (λ (q : List Pulse). part_begin q frames (part + 1)) after in
+    let from = c.part_begin-from.ensures ∙ ap (λ (n : ℕ). part_begin n frames part) c.len-all.ensures.len in
+    let to = c.part_begin-to.ensures ∙ ap (λ (n : ℕ). part_begin n frames (part + 1)) c.len-all.ensures.len in
     let points : ArePoints f century ps frames part p =
     subst (λ (q : List Pulse). ArePoints f century q frames part p) same c.in_ok-points.ensures.points in
-    let added : AreWith f ps old new p (part_begin ps frames part) (part_begin ps frames (part + 1)) =
-    subst (λ (q : List Pulse). AreWith f q old new p (part_begin ps frames part) (part_begin ps frames (part + 1))) after
-    (subst (λ (k : ℕ). AreWith f c.part_points.new.pulses.track.pulses old new p k (part_begin ps frames (part + 1))) from
+    let added : AreWith f ps old new p (part_begin (length ps) frames part) (part_begin (length ps) frames (part + 1)) =
+    subst (λ (q : List Pulse). AreWith f q old new p (part_begin (length ps) frames part) (part_begin (length ps) frames (part + 1))) after
+    (subst (λ (k : ℕ). AreWith f c.part_points.new.pulses.track.pulses old new p k (part_begin (length ps) frames (part + 1))) from
     (subst (λ (k : ℕ). AreWith f c.part_points.new.pulses.track.pulses old new p c.part_begin-from.result k) to c.in_ok-add_points.ensures.with)) in
     record {
       track = c.in_ok-add_points.ensures.pulses ∙ (c.in_ok-points.ensures.pulses ∙ inv.track);
@@ -51,9 +51,8 @@ pub add_points-requires-clause-order : goal.add_points-requires-clause-order
 add_points-requires-clause-order c =
     let frames = c.args.frames.now in
     let part = c.loop-part.part in
-    let after = ap (λ t. t.pulses) c.in_ok-points.ensures.pulses ∙ ap (λ t. t.pulses) c.loop-part.invariant.track in
-    let from = c.part_begin-from.ensures ∙ ap (λ (q : List Pulse). part_begin q frames part) after in
-    let to = c.part_begin-to.ensures ∙ ap (λ (q : List Pulse). part_begin q frames (part + 1)) after in
+    let from = c.part_begin-from.ensures ∙ ap (λ (n : ℕ). part_begin n frames part) c.len-all.ensures.len in
+    let to = c.part_begin-to.ensures ∙ ap (λ (n : ℕ). part_begin n frames (part + 1)) c.len-all.ensures.len in
     let rise = begins-rise c.args.pulses.now.track.pulses frames c.requires.frames part in
     omega (arith, from, to, rise)
 
@@ -62,7 +61,7 @@ returns-clause-points c k x =
     let ps = c.args.pulses.now.track.pulses in
     let frames = c.args.frames.now in
     let past : c.loop-part.part ≡ length frames + 1 = omega (arith, c.loop-part.auto.part-end, c.loop-part-test.false) in
-    let end = ap (part_begin ps frames) past ∙ begins-end ps frames in
+    let end = ap (part_begin (length ps) frames) past ∙ begins-end ps frames in
     let is = c.loop-part.invariant.points k x in (
       λ a. (is.0 a).1,
       λ h. is.1 (let inside = h.point.inside in omega (arith, inside, end), h),
@@ -73,5 +72,5 @@ returns-clause-runs c =
     let ps = c.args.pulses.now.track.pulses in
     let frames = c.args.frames.now in
     let past : c.loop-part.part ≡ length frames + 1 = omega (arith, c.loop-part.auto.part-end, c.loop-part-test.false) in
-    subst (λ (n : ℕ). AreRunsTo c.args.format ps n c.loop-part.runs.items) (ap (part_begin ps frames) past ∙ begins-end ps frames)
+    subst (λ (n : ℕ). AreRunsTo c.args.format ps n c.loop-part.runs.items) (ap (part_begin (length ps) frames) past ∙ begins-end ps frames)
     c.loop-part.invariant.runs

@@ -8,6 +8,6 @@ abbrev pub invariant-loop-part : goal.invariant-loop-part
 invariant-loop-part l = record {
   track : l.pulses.track ≡ l.fn.pulses.track;
   said : (n : ℕ) → l.part ≡ n + 1 → n < length l.frames → AreSaid l.format l.century l.fn.pulses.track.pulses l.frames n l.points;
-  runs : AreRunsTo l.format l.fn.pulses.track.pulses (part_begin l.fn.pulses.track.pulses l.frames l.part) l.runs.items;
-  points : Has l.format l.century l.fn.pulses.track.pulses l.frames l.runs.items (part_begin l.fn.pulses.track.pulses l.frames l.part);
+  runs : AreRunsTo l.format l.fn.pulses.track.pulses (part_begin (length l.fn.pulses.track.pulses) l.frames l.part) l.runs.items;
+  points : Has l.format l.century l.fn.pulses.track.pulses l.frames l.runs.items (part_begin (length l.fn.pulses.track.pulses) l.frames l.part);
 }
