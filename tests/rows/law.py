@@ -82,19 +82,9 @@ def slower(pulses: Pulses, first: int, part: int) -> Pulses:
     return [(at(rise), at(fall)) for rise, fall in pulses]
 
 
-def wavy(pulses: Pulses) -> Pulses:
-    """The first half of each frame takes half a percent more than it should, the second half less."""
-    found = []
-    for number, (rise, fall) in enumerate(pulses):
-        element = (number - 1) % 100
-        by = 50 * min(element, 100 - element)
-        found.append((rise + by, fall + by))
-    return found
-
-
-def waves(pulses: Pulses, most: int) -> Pulses:
-    """The pulses up to some microseconds later, in waves of eight."""
-    lates = [most * min(number % 8, 8 - number % 8) // 4 for number in range(len(pulses))]
+def wavy(pulses: Pulses, period: int, most: int) -> Pulses:
+    """The pulses up to some microseconds later, in waves of some elements from the first marker on."""
+    lates = [2 * most * min(number % period, -number % period) // period for number in range(-1, len(pulses) - 1)]
     return [(rise + late, fall + late) for (rise, fall), late in zip(pulses, lates)]
 
 
@@ -144,16 +134,16 @@ ROWS = [
     Row("a short hole in which the recorder waits", "B", later(without(LONG, *range(place(3, 10), place(3, 21))), place(3, 10), 100),
         [(3, 15.5, 0, "12:34:33.154946")], bounds=[(3, 15.5, Fraction(16 * 100, 160_100))]),
     # over 16 elements rises are 100 microseconds off the line, and steps differ by 50: as much more as that is in a hole
-    Row("a hole on a clock with wow", "B", without(waves(THREE, 100), *range(place(1, 10), place(1, 21))), [(1, 15.5, 100, "12:34:57.155000")],
-        bounds=[(1, 15.5, Fraction(100 - 50, 10_000))]),
-    Row("a hole on a clock with more wow", "B", without(waves(THREE, 500), *range(place(1, 10), place(1, 21))),
-        [(1, 6, 375, "12:34:57.060000"), (1, 15.5, 500, "-")]),
+    Row("a hole on a clock with wow", "B", without(wavy(THREE, 8, 100), *range(place(1, 10), place(1, 21))),
+        [(1, 15.5, 75, "12:34:57.155000")], bounds=[(1, 15.5, Fraction(100 - 50, 10_000))]),
+    Row("a hole on a clock with more wow", "B", without(wavy(THREE, 8, 500), *range(place(1, 10), place(1, 21))),
+        [(1, 6, 250, "12:34:57.060000"), (1, 15.5, 375, "-")]),
     Row("a hole in which the clock changes by 1 %", "B", without(slower(LONG, place(5, 0), 100), *range(place(3, 10), place(7, 10))),
         [(3, 6.5, 0, "12:34:33.065000"), (5, 0.5, 50, "-"), (7, 50.5, 25050, "12:34:37.505000")]),
     Row("a hole, and a clock that changes by 1 % near its end", "B",
         without(slower(LONG, place(5, 0), 100), *range(place(3, 10), place(5, 60))),
         [(2, 50.5, 0, "12:34:32.505000"), (5, 0.5, 50, "-"), (5, 80.5, 8050, "12:34:35.805000")]),
-    Row("a hole on a clock that strays by half a percent", "B", without(wavy(THREE), *range(place(1, 40), place(1, 60))),
+    Row("a hole on a clock that strays by half a percent", "B", without(wavy(THREE, 100, 2500), *range(place(1, 40), place(1, 60))),
         [(1, 30.5, 1525, "12:34:57.305000"), (1, 50.5, 2475, "-")]),
     Row("a clock that changes by 1 % in a frame with a lost pulse", "B", without(slower(LONG, place(3, 80), 100), place(3, 50)),
         [(3, 30.5, 0, "12:34:33.305000"), (3, 90.5, 1050, "12:34:33.905000")]),
@@ -207,8 +197,7 @@ ROWS = [
     Row("one frame that is wrong", "B", code("B", *seconds(50, 51, -52, 53, 54)), [(1, 50.5, 0, "12:34:51.505000"), (2, 50.5, 0, "-")]),
     Row("one frame that is wrong at the end", "B", code("B", *seconds(50, 51, -52)),
         [(0, 50.5, 0, "12:34:50.505000"), (1, 50.5, 0, "-"), (2, 50.5, 0, "-")]),
-    Row("an element of the seconds that is always zero", "B", MIXED,
-        [(frame, 50.5, 0, "-") for frame in range(24)]),
+    Row("an element of the seconds that is always zero", "B", MIXED, [(frame, 50.5, 0, "-") for frame in range(24)]),
     Row("an only frame", "B", code("B", *seconds(50)), [(0, 50.5, 0, "12:34:50.505000")]),
     Row("two frames that do not agree", "B", code("B", *seconds(50, -51)), [(0, 50.5, 0, "-"), (1, 50.5, 0, "-")]),
     # 15 for 12 hours are the elements 20 to 22: the last two of the first frame deny 15, the first two of the second one 12
@@ -221,16 +210,14 @@ ROWS = [
         [(0, 50.5, 0, "-"), (495, 50.5, 0, "-")]),
 
     # Ends: a hundred elements, if none denies. In the second 55 for 53 another element of the seconds is zero.
-    Row("a part of a frame at each end", "B", FIVE[60:470],
-        [(0, 70.5, 0, "12:34:54.705000"), (4, 50.5, 0, "12:34:58.505000")]),
+    Row("a part of a frame at each end", "B", FIVE[60:470], [(0, 70.5, 0, "12:34:54.705000"), (4, 50.5, 0, "12:34:58.505000")]),
     Row("a lost pulse at the end", "B", without(FIVE[:470], place(4, 30)), [(4, 25.5, 0, "12:34:58.255000"), (4, 40.5, 0, "-")]),
     Row("an end that denies", "B", cut(code("B", *seconds(50, 51, 52, 53, 54, 55))[:590], place(3, 60), 100),
         [(2, 99.5, 0, "12:34:52.995000"), (3, 0.5, 0, "-"), (3, 50.5, 0, "-"), (4, 70.5, -1000000, "-")]),
     Row("an end that the binary seconds deny", "B", cut(code("B", *seconds(50, 51, 52, 53, 54, 55), expression=3), place(4, 45), 100),
         [(2, 99.5, 0, "12:34:52.995000"), (3, 0.5, 0, "-"), (4, 30.5, 0, "-"), (5, 90.5, -1000000, "-")], expression=3),
     Row("an end that a single pulse denies, next to a hole", "B",
-        without(cut(code("B", *seconds(50, 51, 52, 53, 54))[:490], place(2, 60), 100), place(3, 1), place(3, 2)),
-        [(2, 50.5, 0, "-")]),
+        without(cut(code("B", *seconds(50, 51, 52, 53, 54))[:490], place(2, 60), 100), place(3, 1), place(3, 2)), [(2, 50.5, 0, "-")]),
 
     Row("noise after the last frame", "B",
         wide(without(FIVE[:471], *range(place(4, 1), place(4, 30)), *range(place(4, 32), place(4, 60))), 8000, place(4, 1), place(4, 2)),

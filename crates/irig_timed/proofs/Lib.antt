@@ -14,7 +14,7 @@ mod Widest
 mod BendLists
 -- times that are true
 mod NearLines
-mod WindowLines
+mod StrayLines
 mod TrueMoments
 mod NearMoments
 -- times of the calendar, and reasons

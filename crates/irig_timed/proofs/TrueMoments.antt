@@ -12,11 +12,11 @@ use Rattle.irig_law.specs.{Holes.rate_of, Holes.units_of, Holes.Rate, Clocks.clo
 use Rattle.irig_law.specs.declared.{frame.Frame.Frame}
 use Rattle.irig_law.specs.{Holes.HolesAreBounded, Theorem.TimesAreTrue}
 use Rattle.irig_timed.specs.{Apart.elements_after, Bends.bends_over, Bends.units_in, Moments.IsMomentBy, Stretches.stretch_at}
-use Rattle.irig_timed.specs.{Truths.MomentsAreTrue, Windows.strays_by, Windows.strays_over}
+use Rattle.irig_timed.specs.{Truths.MomentsAreTrue, Strays.strays_by, Strays.strays_over}
 use Rattle.irig_timed.specs.Gaps.{gap_by, gap_of, gap_over, is_event, is_free, is_step, most_off, off_in, widest}
 use Rattle.irig_timed.specs.declared.gap.Gap.{Gap}
 use Rattle.irig_timed.specs.declared.gap.Gap.TheVariants.{Line, Untimed}
-use Rattle.irig_timed.proofs.{NearLines.passes_nearly, WindowLines.passes_alike}
+use Rattle.irig_timed.proofs.{NearLines.passes_nearly, StrayLines.passes_alike}
 
 abbrev bound-of : Gap → ℕ
 bound-of (Line bound) = bound

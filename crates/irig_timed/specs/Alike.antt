@@ -1,5 +1,4 @@
--- When the recorder's clock ran in a hole as it did in the believed frames around it. This project's
--- own.
+-- When the recorder's clock ran in a hole as in the believed frames around it. This project's own.
 use Rattle.std.specs.Prelude.{◌≡◌, ◌⊎◌, ℕ, ◌+◌, ◌-◌, ◌*◌, ◌/◌, ◌<◌, ◌≤◌, List}
 use Rattle.irig_recording.specs.declared.pulse.Pulse.{Pulse}
 use Rattle.irig_times.specs.Steps.{micros_between}

@@ -10,13 +10,13 @@ use Rattle.irig_law.specs.{Clocks.clock_of, Clocks.slack_of, Holes.rate_of, Hole
 use Rattle.irig_law.specs.{Holes.Rate, OfOne.any_from, Rows.is_clean}
 use Rattle.irig_law.specs.{declared.clock.Clock.Clock, declared.frame.Frame.Frame}
 use Rattle.irig_timed.specs.{Apart.elements_after, Bends.bends_over, Stretches.stretch_at}
-use Rattle.irig_timed.specs.Windows.{strays_by}
+use Rattle.irig_timed.specs.Strays.{strays_by}
 use Rattle.irig_timed.specs.declared.gap.Gap.{Gap}
 use Rattle.irig_timed.specs.declared.gap.Gap.TheVariants.{Line, Untimed}
 use Rattle.irig_timed.specs.declared.run.Place.{Place}
 
 -- Some units of the code pass by the times of two pulses, and by a clock some at least and at most.
--- By how far these differ the line can be off, wherever something was lost; one is for the rounding.
+-- By how far these differ the line can be off, wherever something was lost; one is for rounding.
 abbrev pub most_off : Rate → ℕ → ℕ → ℕ
 most_off r long units = max (r.most * long - units) (units - r.least * long) + 1
 

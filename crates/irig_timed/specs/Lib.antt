@@ -12,8 +12,8 @@ pub mod NearTimes
 pub mod ReasonLaws
 pub mod Reasons
 pub mod Runs
+pub mod Strays
 pub mod Stretches
 pub mod Surroundings
 pub mod TrueMoments
 pub mod Truths
-pub mod Windows

@@ -18,8 +18,8 @@ abbrev pub IsOver : FormatView → ℕ → ℕ → ℕ → ℕ → Type 0
 IsOver f bound d passed over =
     (d * units_in f over ≤ passed + d * bound) × (passed ≤ d * units_in f (over + 1) + d * bound)
 
--- So it is in a hole of n elements and `long` microseconds, if the clock ran at the rate but for one
--- event at most. `part` is in microseconds / d.
+-- So it is in a hole of n elements and `long` microseconds, if the clock ran at the rate but for
+-- one event at most. `part` is in microseconds / d.
 abbrev pub PassesNearly : FormatView → Rate → ℕ → ℕ → ℕ → ℕ → ℕ → ℕ → Type 0
 PassesNearly f r long n bound d part over =
     (passed : ℕ → ℕ) → Hole r (d * long) (d * units_of n) passed

@@ -3,24 +3,20 @@
 
 ghost use Rattle.std.specs.Prelude.{◌≡◌, ◌<◌, ◌≤◌, ◌+◌, ◌^◌, IfSome, Some, length};
 ghost use Rattle.irig_law.specs.{Holes.rate_of, Holes.units_of};
-ghost use Rattle.irig_timed.specs.Gaps.{gap_at, gap_between, gap_by, gap_in, gap_of, gap_over};
+ghost use Rattle.irig_timed.specs.Gaps.{gap_at, gap_between, gap_by, gap_in, gap_of, gap_over, is_free};
 ghost use Rattle.irig_timed.specs.Gaps.{is_event, is_step, most_off, off_in};
-ghost use Rattle.irig_timed.specs.{Bends.bends_over, Windows.strays_by};
+ghost use Rattle.irig_timed.specs.{Bends.bends_over, Strays.strays_by};
 ghost use Rattle.irig_timed.specs.Stretches.{AreFramesOf, stretch_at};
 
 use crate::apart::elements_after;
-use crate::clean::is_free;
 use crate::off::bends_over;
 use crate::run::Place;
+use crate::stray::{UNITS, strays_by};
 use crate::stretch::stretch_at;
-use crate::window::strays_by;
 use irig_codes::{Format, in_step};
-use irig_law::{Clock, Frame, clock_between, micros_between};
+use irig_law::{Clock, Frame, clock_between, is_clean, micros_between};
 use irig_times::Why;
 use irig_track::Lens;
-
-/// The units of an interval: trillionths.
-const UNITS: u128 = 1_000_000_000_000;
 
 /// The greatest bound of a time: a fiftieth of an interval.
 const WIDEST: u128 = 20_000_000_000;
@@ -128,6 +124,20 @@ fn is_step(pulses: &mut Lens<'_>, format: Format, one: usize, other: usize, elem
     other == one + 1 && elements == 1 && in_step(format, micros_between(pulses, one, other))
 }
 
+/// Whether no pulse between two others is clean.
+fn is_free(pulses: &mut Lens<'_>, format: Format, one: usize, other: usize) -> bool
+    requires { (one < 2 ^ 31) × (other < 2 ^ 31) }
+    ensures free { result ≡ is_free format pulses.old.track.pulses one other }
+    ensures pulses { pulses.new.track ≡ pulses.old.track }
+{
+    for number in one + 1..other {
+        if is_clean(pulses, format, number) {
+            return false;
+        }
+    }
+    true
+}
+
 /// The same by the clock of the two frames around; `free` is whether a line can be there, and
 /// `bends` by how much time bends there.
 fn gap_over(
@@ -164,11 +174,29 @@ fn gap_in(free: bool, clock: &Clock, strays: u128, long: u64, elements: u64) -> 
     if clock.span <= clock.slack {
         return Gap::Untimed(Why::Hole);
     }
-    let least = 99 * UNITS / (clock.span as u128 + clock.slack as u128);
-    let most = 99 * UNITS / (clock.span - clock.slack) as u128 + 1;
+    let least = least_of(clock);
+    let most = most_of(clock);
     let long = long as u128;
     let off = off_in(least, most, strays, long, elements);
     gap_by(free, least, most, off, long, elements as u128 * UNITS)
+}
+
+/// The units that pass in a microsecond by a clock, at least.
+fn least_of(clock: &Clock) -> u128
+    requires { (clock.now.span ≤ 2 ^ 40) × (clock.now.slack < clock.now.span) }
+    ensures least { result ≡ (rate_of clock.now).least }
+    ensures low { result < 2 ^ 48 }
+{
+    99 * UNITS / (clock.span as u128 + clock.slack as u128)
+}
+
+/// The same at most.
+fn most_of(clock: &Clock) -> u128
+    requires { (clock.now.span ≤ 2 ^ 40) × (clock.now.slack < clock.now.span) }
+    ensures most { result ≡ (rate_of clock.now).most }
+    ensures low { result < 2 ^ 48 }
+{
+    99 * UNITS / (clock.span - clock.slack) as u128 + 1
 }
 
 /// By how many units the line can be off.

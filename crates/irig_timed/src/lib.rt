@@ -3,7 +3,6 @@
 
 mod apart;
 mod around;
-mod clean;
 mod gap;
 mod held;
 mod known;
@@ -12,8 +11,8 @@ mod line;
 mod moment;
 mod off;
 mod run;
+mod stray;
 mod stretch;
-mod window;
 
 pub use gap::Gap;
 pub use held::held_frames;

@@ -35,7 +35,15 @@ pub fn off_of(pulses: &mut Lens<'_>, known: &Known, format: Format, moment: &Mom
     // The call's contract bounds the track.
     let _count = pulses.len();
     let bends = bends_over(pulses, &known.frames, format, moment.from, moment.to);
-    micros_up(format, moment.bound) + bends + ROUNDED
+    off_by(format, moment.bound, bends)
+}
+
+/// The same by a bound and by what time bends.
+fn off_by(format: Format, bound: u64, bends: u64) -> u64
+    requires { (bound ≤ 20000000000) × (bends ≤ 2 ^ 40) }
+    ensures { result ≡ micros_up format bound + bends + 2 }
+{
+    micros_up(format, bound) + bends + ROUNDED
 }
 
 /// The most by which time bends between two pulses: in the frames around, and at the two.

@@ -7,9 +7,9 @@ use Rattle.irig_codes.specs.{Format.FormatView, Format.interval_of}
 use Rattle.irig_recording.specs.declared.pulse.Pulse.{Pulse}
 use Rattle.irig_times.specs.Steps.{apart, micros_between}
 use Rattle.irig_law.specs.{Holes.units_of, declared.frame.Frame.Frame}
-use Rattle.irig_timed.specs.Windows.{greatest, line_off, most_after, strays_in, strays_most}
+use Rattle.irig_timed.specs.Strays.{greatest, line_off, most_after, strays_in, strays_most}
 use Rattle.irig_timed.specs.Alike.{HasTaken, HoleAs, RunsAs}
-use Rattle.irig_timed.specs.{Bends.units_in, Line.over_in, Truths.PassesAlike, Windows.strays_over}
+use Rattle.irig_timed.specs.{Bends.units_in, Line.over_in, Truths.PassesAlike, Strays.strays_over}
 use Rattle.irig_timed.proofs.NearLines.{unscaled, whole-units}
 
 -- the greatest number is at least each

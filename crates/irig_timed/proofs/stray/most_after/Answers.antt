@@ -1,7 +1,7 @@
 use Rattle.std.proofs.Common.{◌≡◌, ap, arith, ◌∙◌}
-use Rattle.irig_timed.specs.Windows.{line_off, most_after}
-use Rattle.irig_timed.proofs.WindowLines.{greatest-more, greatest-none}
-use Rattle.irig_timed.proofs.window.most_after.Goals as goal
+use Rattle.irig_timed.specs.Strays.{line_off, most_after}
+use Rattle.irig_timed.proofs.StrayLines.{greatest-more, greatest-none}
+use Rattle.irig_timed.proofs.stray.most_after.Goals as goal
 
 pub loop-later-preserved : goal.loop-later-preserved
 loop-later-preserved c =

@@ -1,7 +1,7 @@
 use Rattle.std.proofs.Common.{◌≡◌, ◌-◌, ◌≤◌, ◌^◌}
 use Rattle.std.specs.Prelude.{max}
-use Rattle.irig_timed.specs.Windows.{greatest, line_off, most_after}
-use Rattle.irig_timed.proofs.window.most_after.Given as goal
+use Rattle.irig_timed.specs.Strays.{greatest, line_off, most_after}
+use Rattle.irig_timed.proofs.stray.most_after.Given as goal
 
 abbrev pub invariant-loop-later : goal.invariant-loop-later
 invariant-loop-later l = record {

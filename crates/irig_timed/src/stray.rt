@@ -1,16 +1,15 @@
-//! How far rises stray from the line over a hole, in the believed frames around it. Bounds in
-//! `requires`, as 2 ^ 26, only keep sums in their types.
+//! How far rises stray from the line over a hole, in the believed frames around it.
 
 ghost use Rattle.std.specs.Prelude.{◌≡◌, ◌<◌, ◌≤◌, ◌+◌, ◌^◌, max};
-ghost use Rattle.irig_timed.specs.Windows.{line_off, most_after, strays_by, strays_in};
-ghost use Rattle.irig_timed.specs.{Bends.units_in, Windows.strays_over};
+ghost use Rattle.irig_timed.specs.Strays.{line_off, most_after, strays_by, strays_in};
+ghost use Rattle.irig_timed.specs.{Bends.units_in, Strays.strays_over};
 
 use irig_codes::Format;
 use irig_law::{Frame, micros_between};
 use irig_track::Lens;
 
 /// The units of an interval: trillionths.
-const UNITS: u128 = 1_000_000_000_000;
+pub const UNITS: u128 = 1_000_000_000_000;
 
 /// The intervals of a frame from its marker on.
 const INTERVALS: u64 = 99;

@@ -1,7 +1,7 @@
 use Rattle.std.proofs.Common.{◌≡◌, not, true, false, ap, sym, ◌∙◌}
 use Rattle.irig_law.specs.{Rows.is_clean}
 use Rattle.irig_law.proofs.AnyFrom.{any-here, any-next, any-none}
-use Rattle.irig_timed.proofs.clean.is_free.Goals as goal
+use Rattle.irig_timed.proofs.gap.is_free.Goals as goal
 
 pub loop-number-preserved : goal.loop-number-preserved
 loop-number-preserved c =

@@ -1,7 +1,7 @@
 use Rattle.std.proofs.Common.{◌≡◌, ◌+◌, ap, arith, ◌∙◌}
-use Rattle.irig_timed.specs.Windows.{most_after, strays_in}
-use Rattle.irig_timed.proofs.WindowLines.{greatest-more, greatest-none}
-use Rattle.irig_timed.proofs.window.strays_in.Goals as goal
+use Rattle.irig_timed.specs.Strays.{most_after, strays_in}
+use Rattle.irig_timed.proofs.StrayLines.{greatest-more, greatest-none}
+use Rattle.irig_timed.proofs.stray.strays_in.Goals as goal
 
 pub loop-number-preserved : goal.loop-number-preserved
 loop-number-preserved c =

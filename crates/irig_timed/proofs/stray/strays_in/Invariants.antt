@@ -1,7 +1,7 @@
 use Rattle.std.proofs.Common.{◌≡◌, ◌+◌, ◌-◌, ◌≤◌, ◌^◌}
 use Rattle.std.specs.Prelude.{max}
-use Rattle.irig_timed.specs.Windows.{greatest, most_after, strays_in}
-use Rattle.irig_timed.proofs.window.strays_in.Given as goal
+use Rattle.irig_timed.specs.Strays.{greatest, most_after, strays_in}
+use Rattle.irig_timed.proofs.stray.strays_in.Given as goal
 
 abbrev pub invariant-loop-number : goal.invariant-loop-number
 invariant-loop-number l = record {

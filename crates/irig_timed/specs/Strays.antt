@@ -13,8 +13,8 @@ abbrev pub greatest : (ℕ → ℕ) → ℕ → ℕ → ℕ
 greatest value k zero = 0
 greatest value k (suc n) = max (value k) (greatest value (k + 1) n)
 
--- A line goes over n elements in `long` microseconds. If it goes through the rise of one pulse, this
--- is how far it is from that of a later one, in nths of a microsecond.
+-- A line goes over n elements in `long` microseconds. If it goes through the rise of one pulse,
+-- this is how far it is from that of a later one, in nths of a microsecond.
 abbrev pub line_off : List Pulse → ℕ → ℕ → ℕ → ℕ → ℕ
 line_off ps long n p q = apart ((q - p) * long) (n * micros_between ps p q)
 

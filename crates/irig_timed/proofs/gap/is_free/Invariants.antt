@@ -1,6 +1,6 @@
 use Rattle.std.proofs.Common.{◌≡◌, ◌+◌, ◌-◌}
 use Rattle.irig_law.specs.{OfOne.any_from, Rows.is_clean}
-use Rattle.irig_timed.proofs.clean.is_free.Given as goal
+use Rattle.irig_timed.proofs.gap.is_free.Given as goal
 
 abbrev pub invariant-loop-number : goal.invariant-loop-number
 invariant-loop-number l = record {
