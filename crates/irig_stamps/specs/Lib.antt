@@ -12,6 +12,7 @@ pub mod Offs
 pub mod Outs
 pub mod Points
 pub mod Printed
+pub mod Ready
 pub mod Reasons
 pub mod Runs
 pub mod StampTexts

@@ -1,10 +1,10 @@
 //! Lines are aligned with a recording of an IRIG time code.
 
-ghost use Rattle.std.specs.Prelude.{◌≡◌, ◌≤◌, ◌<◌, ◌^◌, ℕ, List, Option, IfOk, IfSome};
+ghost use Rattle.std.specs.Prelude.{◌≡◌, ◌<◌, ℕ, List, Option, IfOk, IfSome};
 ghost use Rattle.std.specs.Io.KnownBytes.{Consumes};
 ghost use Rattle.irig_stamps.specs.Aligned.{Aligns, AlignsNamed, AlignsNumbered, tally_of};
 ghost use Rattle.irig_stamps.specs.Aligned.{standing_of};
-ghost use Rattle.irig_stamps.specs.{Runs.Ends, TrackSettings.with_track};
+ghost use Rattle.irig_stamps.specs.{Ready.IsWithin, Runs.Ends, TrackSettings.with_track};
 
 use crate::fault::RunFault;
 use crate::finding::find;
@@ -30,10 +30,7 @@ pub fn align<R: Read, W: Write>(
     format: Format,
     settings: &Settings<'_>,
 ) -> Result<Outcome, RunFault>
-    requires century { settings.now.century ≤ 99 }
-    requires offset { settings.now.offset ≤ 2 ^ 119 }
-    requires year { IfSome settings.now.year (λ y. y ≤ 9998) }
-    requires header { settings.now.header < 2 ^ 64 }
+    requires limits { IsWithin settings.now }
     requires named { IfSome settings.now.named (λ n. 0 < settings.now.header) }
     ensures { Aligns format recording.micros recording.edges settings.now (R.remaining lines.old)
         (R.remaining lines.new) (W.contents out.old) (W.contents out.new) result }
@@ -53,10 +50,7 @@ fn align_by_number<R: Read, W: Write>(
     format: Format,
     settings: &Settings<'_>,
 ) -> Result<Outcome, RunFault>
-    requires century { settings.now.century ≤ 99 }
-    requires offset { settings.now.offset ≤ 2 ^ 119 }
-    requires year { IfSome settings.now.year (λ y. y ≤ 9998) }
-    requires header { settings.now.header < 2 ^ 64 }
+    requires limits { IsWithin settings.now }
     ensures { AlignsNumbered format recording.now.micros recording.now.edges settings.now
         (R.remaining lines.old) (R.remaining lines.new) (W.contents out.old) (W.contents out.new)
         result }
@@ -75,10 +69,7 @@ fn align_by_name<R: Read, W: Write>(
     settings: &Settings<'_>,
     name: &[u8],
 ) -> Result<Outcome, RunFault>
-    requires century { settings.now.century ≤ 99 }
-    requires offset { settings.now.offset ≤ 2 ^ 119 }
-    requires year { IfSome settings.now.year (λ y. y ≤ 9998) }
-    requires header { settings.now.header < 2 ^ 64 }
+    requires limits { IsWithin settings.now }
     requires named { 0 < settings.now.header }
     ensures { AlignsNamed name.now format recording.now.micros recording.now.edges settings.now
         (R.remaining lines.old) (R.remaining lines.new) (W.contents out.old) (W.contents out.new)
@@ -107,10 +98,7 @@ fn align_track<R: Read, W: Write>(
     format: Format,
     settings: &Settings<'_>,
 ) -> Result<Outcome, RunFault>
-    requires century { settings.now.century ≤ 99 }
-    requires offset { settings.now.offset ≤ 2 ^ 119 }
-    requires year { IfSome settings.now.year (λ y. y ≤ 9998) }
-    requires header { settings.now.header < 2 ^ 64 }
+    requires limits { IsWithin settings.now }
     ensures ends { (start : Option (List ℕ)) → Consumes start (R.remaining lines.old) before.now
         → Ends format pulses.old.track.pulses
         (with_track format pulses.old.track.micros pulses.old.track.pulses settings.now) start

@@ -1,9 +1,8 @@
 //! The run over the lines: it reads them in parts, and prints each line with its stamp before it.
 
-ghost use Rattle.std.specs.Prelude.{◌≡◌, ◌≤◌, ◌<◌, ◌^◌, [], ℕ, List, Option, true, false, OnOk, IfOk};
-ghost use Rattle.std.specs.Prelude.{IfSome};
+ghost use Rattle.std.specs.Prelude.{◌≡◌, [], ℕ, List, Option, true, false, OnOk, IfOk};
 ghost use Rattle.std.specs.Io.KnownBytes.{Consumes, IsAtEnd};
-ghost use Rattle.irig_stamps.specs.Reasons.{IsKnownOf};
+ghost use Rattle.irig_stamps.specs.Ready.{IsReady};
 ghost use Rattle.irig_stamps.specs.Runs.{Ends};
 ghost use Rattle.irig_stamps.specs.Steps.{GoesOn, Underway};
 
@@ -32,11 +31,7 @@ pub fn run<R: Read, W: Write>(
     format: Format,
     settings: &Settings<'_>,
 ) -> Result<Tally, RunFault>
-    requires known { IsKnownOf format settings.now pulses.old.track.pulses known.now }
-    requires century { settings.now.century ≤ 99 }
-    requires offset { settings.now.offset ≤ 2 ^ 119 }
-    requires year { IfSome settings.now.year (λ y. y ≤ 9998) }
-    requires header { settings.now.header < 2 ^ 64 }
+    requires ready { IsReady format settings.now pulses.old.track.pulses known.now }
     ensures { (start : Option (List ℕ)) → Consumes start (R.remaining lines.old) before.now
         → Ends format pulses.old.track.pulses settings.now start (R.remaining lines.new)
         (W.contents out.old) (W.contents out.new) result }
@@ -65,11 +60,7 @@ fn run_rest<R: Read, W: Write>(
     format: Format,
     settings: &Settings<'_>,
 ) -> Result<Tally, RunFault>
-    requires known { IsKnownOf format settings.now pulses.old.track.pulses known.now }
-    requires century { settings.now.century ≤ 99 }
-    requires offset { settings.now.offset ≤ 2 ^ 119 }
-    requires year { IfSome settings.now.year (λ y. y ≤ 9998) }
-    requires header { settings.now.header < 2 ^ 64 }
+    requires ready { IsReady format settings.now pulses.old.track.pulses known.now }
     requires empty { text.old.items ≡ [] }
     ensures { (start : Option (List ℕ)) (from : Option (List ℕ))
         → Underway format pulses.old.track.pulses settings.now start (R.remaining lines.old) from
@@ -110,11 +101,7 @@ fn run_one_read<R: Read, W: Write>(
     format: Format,
     settings: &Settings<'_>,
 ) -> Result<bool, RunFault>
-    requires known { IsKnownOf format settings.now pulses.old.track.pulses known.now }
-    requires century { settings.now.century ≤ 99 }
-    requires offset { settings.now.offset ≤ 2 ^ 119 }
-    requires year { IfSome settings.now.year (λ y. y ≤ 9998) }
-    requires header { settings.now.header < 2 ^ 64 }
+    requires ready { IsReady format settings.now pulses.old.track.pulses known.now }
     requires empty { text.old.items ≡ [] }
     ensures step { (start : Option (List ℕ)) (from : Option (List ℕ))
         → Underway format pulses.old.track.pulses settings.now start (R.remaining lines.old) from
@@ -153,11 +140,7 @@ fn put_part<W: Write>(
     settings: &Settings<'_>,
     part: &[u8],
 ) -> Result<bool, RunFault>
-    requires known { IsKnownOf format settings.now pulses.old.track.pulses known.now }
-    requires century { settings.now.century ≤ 99 }
-    requires offset { settings.now.offset ≤ 2 ^ 119 }
-    requires year { IfSome settings.now.year (λ y. y ≤ 9998) }
-    requires header { settings.now.header < 2 ^ 64 }
+    requires ready { IsReady format settings.now pulses.old.track.pulses known.now }
     requires empty { text.old.items ≡ [] }
     ensures step { (start : Option (List ℕ)) (was : Option (List ℕ)) (is : Option (List ℕ))
         (from : Option (List ℕ)) → Underway format pulses.old.track.pulses settings.now start was
@@ -184,11 +167,7 @@ fn end_last_line<W: Write>(
     format: Format,
     settings: &Settings<'_>,
 ) -> Result<bool, RunFault>
-    requires known { IsKnownOf format settings.now pulses.old.track.pulses known.now }
-    requires century { settings.now.century ≤ 99 }
-    requires offset { settings.now.offset ≤ 2 ^ 119 }
-    requires year { IfSome settings.now.year (λ y. y ≤ 9998) }
-    requires header { settings.now.header < 2 ^ 64 }
+    requires ready { IsReady format settings.now pulses.old.track.pulses known.now }
     requires empty { text.old.items ≡ [] }
     ensures step { (start : Option (List ℕ)) (left : Option (List ℕ)) (from : Option (List ℕ))
         → IsAtEnd left → Underway format pulses.old.track.pulses settings.now start left from

@@ -1,11 +1,10 @@
 //! What comes out for a line: the line as it was, with its stamp before it.
 
-ghost use Rattle.std.specs.Prelude.{◌≡◌, ◌<◌, ◌≤◌, ◌^◌, ◌++◌, ◌∷◌, [], ℕ, List};
-ghost use Rattle.std.specs.Prelude.{IfOk, IfSome, OnOk, unwrap_or};
+ghost use Rattle.std.specs.Prelude.{◌≡◌, ◌<◌, ◌++◌, ◌∷◌, [], ℕ, List, IfOk, OnOk, unwrap_or};
 ghost use Rattle.irig_stamps.specs.Looks.{begins, header_look, line_look, look_at};
 ghost use Rattle.irig_stamps.specs.Outs.{IsOut, IsStamped, header_name, header_word};
 ghost use Rattle.irig_stamps.specs.Offs.{header_cell};
-ghost use Rattle.irig_stamps.specs.Reasons.{IsKnownOf};
+ghost use Rattle.irig_stamps.specs.Ready.{IsReady};
 
 use crate::columns::{column, width};
 use crate::cutting::is_digit;
@@ -32,10 +31,7 @@ pub fn put_line_out(
     count: u64,
     line: &[u8],
 ) -> Result<Look, AllocError>
-    requires known { IsKnownOf format settings.now pulses.old.track.pulses known.now }
-    requires century { settings.now.century ≤ 99 }
-    requires offset { settings.now.offset ≤ 2 ^ 119 }
-    requires year { IfSome settings.now.year (λ y. y ≤ 9998) }
+    requires ready { IsReady format settings.now pulses.old.track.pulses known.now }
     ensures out { IfOk result (λ look. (out : List ℕ)
         × IsOut format pulses.old.track.pulses settings.now (header_word settings.now count)
         line.now out × (text.new.items ≡ text.old.items ++ out)
@@ -94,10 +90,7 @@ fn put_stamped(
     count: u64,
     line: &[u8],
 ) -> Result<Look, AllocError>
-    requires known { IsKnownOf format settings.now pulses.old.track.pulses known.now }
-    requires century { settings.now.century ≤ 99 }
-    requires offset { settings.now.offset ≤ 2 ^ 119 }
-    requires year { IfSome settings.now.year (λ y. y ≤ 9998) }
+    requires ready { IsReady format settings.now pulses.old.track.pulses known.now }
     ensures stamped { IfOk result (λ look. (out : List ℕ)
         × IsStamped format pulses.old.track.pulses settings.now line.now out
         × (text.new.items ≡ text.old.items ++ out)

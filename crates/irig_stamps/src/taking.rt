@@ -1,7 +1,7 @@
 //! Bytes of lines are taken, as they come.
 
-ghost use Rattle.std.specs.Prelude.{◌≡◌, ◌≢◌, ◌≤◌, ◌<◌, ◌^◌, ◌∷◌, [], OnOk, IfSome};
-ghost use Rattle.irig_stamps.specs.Reasons.{IsKnownOf};
+ghost use Rattle.std.specs.Prelude.{◌≡◌, ◌≢◌, ◌∷◌, [], OnOk};
+ghost use Rattle.irig_stamps.specs.Ready.{IsReady};
 ghost use Rattle.irig_stamps.specs.Steps.{PushesAs, Takes, TakesAs};
 
 use crate::fault::TakeFault;
@@ -26,11 +26,7 @@ fn take_byte(
     settings: &Settings<'_>,
     byte: u8,
 ) -> Result<(), TakeFault>
-    requires known { IsKnownOf format settings.now pulses.old.track.pulses known.now }
-    requires century { settings.now.century ≤ 99 }
-    requires offset { settings.now.offset ≤ 2 ^ 119 }
-    requires year { IfSome settings.now.year (λ y. y ≤ 9998) }
-    requires header { settings.now.header < 2 ^ 64 }
+    requires ready { IsReady format settings.now pulses.old.track.pulses known.now }
     ensures taken { TakesAs format pulses.old.track.pulses settings.now (byte ∷ [])
         text.old.items text.new.items state.old state.new result }
     ensures pulses { pulses.new.track ≡ pulses.old.track }
@@ -67,11 +63,7 @@ pub fn end_line(
     format: Format,
     settings: &Settings<'_>,
 ) -> Result<(), AllocError>
-    requires known { IsKnownOf format settings.now pulses.old.track.pulses known.now }
-    requires century { settings.now.century ≤ 99 }
-    requires offset { settings.now.offset ≤ 2 ^ 119 }
-    requires year { IfSome settings.now.year (λ y. y ≤ 9998) }
-    requires header { settings.now.header < 2 ^ 64 }
+    requires ready { IsReady format settings.now pulses.old.track.pulses known.now }
     ensures taken { OnOk result (Takes format pulses.old.track.pulses settings.now (10 ∷ [])
         text.old.items text.new.items state.old state.new) }
     ensures next { OnOk result (state.new.line.items ≡ []) }
@@ -95,11 +87,7 @@ pub fn take_part(
     settings: &Settings<'_>,
     part: &[u8],
 ) -> Result<(), TakeFault>
-    requires known { IsKnownOf format settings.now pulses.old.track.pulses known.now }
-    requires century { settings.now.century ≤ 99 }
-    requires offset { settings.now.offset ≤ 2 ^ 119 }
-    requires year { IfSome settings.now.year (λ y. y ≤ 9998) }
-    requires header { settings.now.header < 2 ^ 64 }
+    requires ready { IsReady format settings.now pulses.old.track.pulses known.now }
     ensures taken { TakesAs format pulses.old.track.pulses settings.now part.now
         text.old.items text.new.items state.old state.new result }
     ensures pulses { pulses.new.track ≡ pulses.old.track }

@@ -1,10 +1,10 @@
 -- What a command line asks for. This project's own.
-use Rattle.std.specs.Prelude.{◌≡◌, ◌&&◌, ◌^◌, ◌<◌, ◌≤◌, Bool, true, false, nat_lt, not, Some}
-use Rattle.std.specs.Prelude.{IfSome, codes, is_some}
+use Rattle.std.specs.Prelude.{◌≡◌, ◌&&◌, ◌<◌, Bool, true, false, nat_lt, not, Some, IfSome, codes}
+use Rattle.std.specs.Prelude.{is_some}
 use Rattle.irig_codes.specs.Format.{FormatView}
 use Rattle.irig_stamps.specs.declared.settings.Form.TheVariants.{Ordinal, Calendar, Seconds}
 use Rattle.irig_stamps.specs.{declared.picos.Picos.Picos, declared.settings.Form.Form}
-use Rattle.irig_stamps.specs.declared.settings.Settings.{Settings}
+use Rattle.irig_stamps.specs.{Ready.IsWithin, declared.settings.Settings.Settings}
 use Rattle.irig_time.specs.Samples.{HasColumns, HasDates, HasName, HasWithin}
 use Rattle.irig_time.specs.Values.{whole_between}
 use Rattle.irig_time.specs.Wants.{has_line_option, is_json_alone, is_not_of_holes, task_of}
@@ -34,10 +34,9 @@ pub record HasSettings (a : RawValues) (s : Settings) : Type 0 where
   pub bound : s.bound ≡ wants_bound a
   pub within : HasWithin a s.within
 
--- the values are within their limits
+-- they are within their limits
 abbrev pub IsSound : Settings → Type 0
-IsSound s = (s.century ≤ 99) × ((s.offset ≤ 2 ^ 119) × (IfSome s.year (λ y. y ≤ 9998)
-    × ((s.header < 2 ^ 64) × IfSome s.named (λ n. 0 < s.header))))
+IsSound s = IsWithin s × IfSome s.named (λ n. 0 < s.header)
 
 -- a date is asked for that nothing gives a year: the expressions 0 to 3 have none
 abbrev pub is_calendar : Form → Bool
