@@ -3,17 +3,13 @@ use Rattle.std.proofs.Common.{◌≡◌, ℕ, zero, suc, ◌+◌, ◌-◌, ◌*�
 use Rattle.std.proofs.Common.{Option, Some, None, inl, inr, arith, ◌==◌}
 use Rattle.std.specs.Prelude.{option_map}
 use Rattle.std.proofs.lemmas.Bool.{cases_lt}
-use Rattle.irig_stamps.specs.Numbers.{above, below, capped}
+use Rattle.irig_stamps.specs.Numbers.{capped, with_sign}
 use Rattle.irig_stamps.specs.Points.{digits_after, has_more, has_weight, kept, padded, rounded, scaled, with_one}
 use Rattle.irig_stamps.proofs.Digits.{digits_after-append, kept-at-most}
 
-pub above-capped : (v : Option ℕ) → above (option_map (λ x. min x (2 ^ 120)) v) ≡ option_map capped (above v)
-above-capped None = refl
-above-capped (Some v) = refl
-
-pub below-capped : (v : Option ℕ) → below (option_map (λ x. min x (2 ^ 120)) v) ≡ option_map capped (below v)
-below-capped None = refl
-below-capped (Some v) = refl
+with_sign-capped : (negative : Bool) (v : Option ℕ) → with_sign negative (option_map (λ x. min x (2 ^ 120)) v) ≡ option_map capped (with_sign negative v)
+with_sign-capped negative None = refl
+with_sign-capped negative (Some v) = refl
 
 none-more : (k : ℕ) → 0 + k ≡ k
 none-more k = omega arith
@@ -21,11 +17,9 @@ none-more k = omega arith
 one-more : (j k : ℕ) → suc j + k ≡ suc (j + k)
 one-more j k = omega arith
 
-pub above-is : (size v : Option ℕ) → size ≡ option_map (λ x. min x (2 ^ 120)) v → above size ≡ option_map capped (above v)
-above-is size v e = ap above e ∙ above-capped v
-
-pub below-is : (size v : Option ℕ) → size ≡ option_map (λ x. min x (2 ^ 120)) v → below size ≡ option_map capped (below v)
-below-is size v e = ap below e ∙ below-capped v
+pub with_sign-is : (negative : Bool) (size v : Option ℕ) → size ≡ option_map (λ x. min x (2 ^ 120)) v
+    → with_sign negative size ≡ option_map capped (with_sign negative v)
+with_sign-is negative size v e = ap (with_sign negative) e ∙ with_sign-capped negative v
 
 -- digits past all of the first ones
 pub padded-whole : (xs ys : List ℕ) (k : ℕ) → padded (length xs + k) (xs ++ ys) ≡ xs ++ padded k ys

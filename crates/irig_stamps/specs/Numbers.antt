@@ -23,21 +23,21 @@ size_in up n text = size (before NonDigit text) (onward NonDigit text) where
   size [] rest = None
   size (d ∷ ds) rest = with_fraction up n (d ∷ ds) rest
 
--- so long after zero, or before it
-abbrev pub above : Option ℕ → Option Picos
-above None = None
-above (Some v) = Some (record { negative = false; size = v })
+-- so long before zero, or after it
+abbrev pub with_sign : Bool → Option ℕ → Option Picos
+with_sign negative None = None
+with_sign negative (Some v) = Some (record { negative = negative; size = v })
 
-abbrev pub below : Option ℕ → Option Picos
-below None = None
-below (Some v) = Some (record { negative = true; size = v })
+-- that of the number
+abbrev pub sized : Bool → ℕ → List ℕ → Option Picos
+sized negative n text = with_sign negative (size_in negative n text)
 
 -- the same with a sign, or without one
 abbrev pub signed : ℕ → List ℕ → Option Picos
 signed n [] = None
 signed n (b ∷ bs) =
-    if b == 45 then below (size_in true n bs)
-    else (if b == 43 then above (size_in false n bs) else above (size_in false n (b ∷ bs)))
+    if b == 45 then sized true n bs
+    else (if b == 43 then sized false n bs else sized false n (b ∷ bs))
 
 -- the number in a column, if it is one: maybe a sign, digits, maybe a point and digits, and maybe
 -- an exponent, with white space round them; in units of which 10^n make one of the column, rounded

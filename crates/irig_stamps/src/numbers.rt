@@ -1,10 +1,10 @@
 //! The decimal number in a column, times 10^`places`, as a whole number.
 
-ghost use Rattle.std.specs.Prelude.{◌≡◌, ◌^◌, ℕ, List, min, option_map, false, true};
+ghost use Rattle.std.specs.Prelude.{◌≡◌, ◌^◌, ℕ, List, min, option_map};
 ghost use Rattle.irig_stamps.specs.Columns.{before, onward};
 ghost use Rattle.irig_stamps.specs.Exponents.{after_e, if_blank, powered, with_exponent};
-ghost use Rattle.irig_stamps.specs.Numbers.{above, below, capped, number_in, signed, size_in};
-ghost use Rattle.irig_stamps.specs.Numbers.{whole_in, with_fraction};
+ghost use Rattle.irig_stamps.specs.Numbers.{capped, number_in, signed, size_in, sized, whole_in};
+ghost use Rattle.irig_stamps.specs.Numbers.{with_fraction, with_sign};
 ghost use Rattle.irig_stamps.specs.declared.cutting.Until.TheVariants.{NonDigit};
 
 use crate::cutting::{Until, cut};
@@ -25,48 +25,26 @@ fn signed(places: usize, text: &[u8]) -> Option<Picos>
     ensures { result ≡ option_map capped (signed places text.now) }
 {
     match text {
-        [b'-', text @ ..] => negative(places, text),
-        [b'+', text @ ..] => positive(places, text),
-        _ => positive(places, text),
+        [b'-', text @ ..] => sized(true, places, text),
+        [b'+', text @ ..] => sized(false, places, text),
+        _ => sized(false, places, text),
     }
 }
 
-/// The number of a text whose minus is passed already.
-fn negative(places: usize, text: &[u8]) -> Option<Picos>
-    ensures { result ≡ option_map capped (below (size_in true places text.now)) }
+/// The number of a text that has no sign, or whose sign is passed already: before zero if that was
+/// a minus (`negative`).
+fn sized(negative: bool, places: usize, text: &[u8]) -> Option<Picos>
+    ensures { result ≡ option_map capped (sized negative places text.now) }
 {
-    below_zero(size_in(true, places, text))
+    with_sign(negative, size_in(negative, places, text))
 }
 
-/// The number of a text that has no sign, or whose plus is passed already.
-fn positive(places: usize, text: &[u8]) -> Option<Picos>
-    ensures { result ≡ option_map capped (above (size_in false places text.now)) }
-{
-    above_zero(size_in(false, places, text))
-}
-
-/// The number that is `size` above zero; `None` if there is no size, as the text was no number.
-fn above_zero(size: Option<u128>) -> Option<Picos>
-    ensures { result ≡ above size }
+/// `None` if there is no size, as the text was no number.
+fn with_sign(negative: bool, size: Option<u128>) -> Option<Picos>
+    ensures { result ≡ with_sign negative size }
 {
     match size {
-        Some(size) => Some(Picos {
-            negative: false,
-            size,
-        }),
-        None => None,
-    }
-}
-
-/// The number that is `size` below zero; `None` if there is no size, as the text was no number.
-fn below_zero(size: Option<u128>) -> Option<Picos>
-    ensures { result ≡ below size }
-{
-    match size {
-        Some(size) => Some(Picos {
-            negative: true,
-            size,
-        }),
+        Some(size) => Some(Picos { negative, size }),
         None => None,
     }
 }
