@@ -23,6 +23,12 @@ stands rs k lt = (get_or rs k none, slice_get-get_or rs k none lt) where
   none : Record
   none = record { marker = 0; verdict = Broken 0 Ended }
 
+-- it is that of records that are the same
+pub at-place : (rs now : List Record) (k : ℕ) → now ≡ rs → k < length rs → (r : Record) × (slice_get rs k ≡ Some r) × (slice_get now k ≡ Some r)
+at-place rs now k same lt =
+    let r = stands rs k lt in
+    (r.0, r.1, ap (λ (l : List Record). slice_get l k) same ∙ r.1)
+
 -- the records from a place on begin with that at the place
 pub from-place : (rs : List Record) (k : ℕ) (r : Record) → slice_get rs k ≡ Some r → drop k rs ≡ r ∷ drop (suc k) rs
 from-place rs k r is = drop-cons rs k r (slice_get_within rs k r is) ∙ ap (λ (x : Record). x ∷ drop (suc k) rs) (get_or_from_slice_get rs k r r is)

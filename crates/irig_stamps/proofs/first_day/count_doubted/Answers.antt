@@ -1,6 +1,5 @@
-use Rattle.std.proofs.Common.{◌≤◌, ◌<◌, length, slice_get, List, ap, ◌∙◌, arith}
-use Rattle.irig_index.specs.declared.record.Record.{Record}
-use Rattle.irig_stamps.proofs.DateSteps.{doubt-end, doubt-step, stands}
+use Rattle.std.proofs.Common.{◌≤◌, length, ap, ◌∙◌, arith}
+use Rattle.irig_stamps.proofs.DateSteps.{at-place, doubt-end, doubt-step}
 use Rattle.irig_stamps.proofs.first_day.count_doubted.Goals as goal
 
 pub doubt_of-count-requires : goal.doubt_of-count-requires
@@ -10,14 +9,11 @@ pub loop-k-preserved : goal.loop-k-preserved
 loop-k-preserved c =
     let rs = c.args.records.now.records in
     let k = c.loop-k.k in
-    let same = c.loop-k.invariant.same in
-    let lt : k < length rs = omega (arith, c.loop-k-test.true, c.len-k-end.ensures) in
-    let r = stands rs k lt in
-    let here = ap (λ (l : List Record). slice_get l k) same ∙ r.1 in
+    let r = at-place rs _ k c.loop-k.invariant.same (omega (arith, c.loop-k-test.true, c.len-k-end.ensures)) in
     record {
-      same = c.doubt_of-count.ensures.same ∙ same;
+      same = c.doubt_of-count.ensures.same ∙ c.loop-k.invariant.same;
       few = omega (arith, c.loop-k.invariant.few, c.doubt_of-count.ensures.few);
-      left = omega (arith, c.loop-k.invariant.left, doubt-step c.args.format c.args.held.now rs k r.0 r.1, c.doubt_of-count.ensures.doubt r.0 here);
+      left = omega (arith, c.loop-k.invariant.left, doubt-step c.args.format c.args.held.now rs k r.0 r.1, c.doubt_of-count.ensures.doubt r.0 r.2);
     }
 
 pub returns-clause-count : goal.returns-clause-count
