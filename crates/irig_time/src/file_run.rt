@@ -1,7 +1,8 @@
 //! Lines are aligned with the track of a dump, of up to 2^26 pulses, or its frames are listed, or
 //! its stretches without a time.
 
-ghost use Rattle.irig_time.specs.{Done.EndsAs};
+ghost use Rattle.std.specs.Prelude.{◌≡◌};
+ghost use Rattle.irig_time.specs.Done.{done_of, ending_of};
 ghost use Rattle.irig_time.specs.Chosen.{IsSound};
 ghost use Rattle.irig_time.specs.Runs.{AlignsAs, HolesAs, ListsAs, Obeys, RunsAs};
 
@@ -12,7 +13,7 @@ use crate::found::Found;
 use crate::task::Task;
 use irig_files::{Disk, read_long_track};
 use irig_recording::LongRecording;
-use irig_stamps::{Outcome, align, list, list_holes};
+use irig_stamps::{Outcome, Standing, align, list, list_holes};
 use std::alloc::Global;
 use std::io::{Read, Write};
 
@@ -88,11 +89,7 @@ fn list_track<'a, W: Write>(
     ensures { ListsAs chosen.now recording.edges (W.contents out.old) (W.contents out.new) result }
 {
     match list(alloc, recording, out, chosen.format, &chosen.settings) {
-        Ok(standing) if standing.doubted > 0 => {
-            Ending::Doubted(chosen.track, standing.doubted, None)
-        }
-        Ok(standing) if standing.timed => Ending::Listed,
-        Ok(_) => Ending::Timeless(chosen.track, None),
+        Ok(standing) => ending_of(chosen, standing, None),
         Err(fault) => Ending::Broken(fault),
     }
 }
@@ -117,26 +114,37 @@ fn align_track<'a, R: Read, W: Write>(
         chosen.format,
         &chosen.settings,
     ) {
-        Ok(outcome) => ending_of(chosen, micros, outcome),
+        Ok(outcome) => {
+            let done = done_of(chosen, micros, outcome);
+            ending_of(chosen, outcome.standing, Some(done))
+        }
         Err(fault) => Ending::Broken(fault),
     }
 }
 
-/// How a run over all lines ended, with a track of some microseconds.
-fn ending_of<'a>(chosen: &Chosen<'a>, micros: u64, outcome: Outcome) -> Ending<'a>
-    ensures { EndsAs chosen.now micros outcome result }
+fn done_of(chosen: &Chosen<'_>, micros: u64, outcome: Outcome) -> Done
+    ensures { result ≡ done_of chosen.now micros outcome }
 {
-    let standing = outcome.standing;
-    let done = Done {
+    Done {
         tally: outcome.tally,
         micros,
         quiet: chosen.quiet,
-    };
+    }
+}
+
+/// How a run ends after which all has come out, by what was found of the track: after lines with
+/// what was done with them.
+fn ending_of<'a>(chosen: &Chosen<'a>, standing: Standing, done: Option<Done>) -> Ending<'a>
+    ensures { result ≡ ending_of chosen.now standing done }
+{
     if standing.doubted > 0 {
-        return Ending::Doubted(chosen.track, standing.doubted, Some(done));
+        return Ending::Doubted(chosen.track, standing.doubted, done);
     }
-    if standing.timed {
-        return Ending::Aligned(done);
+    if !standing.timed {
+        return Ending::Timeless(chosen.track, done);
     }
-    Ending::Timeless(chosen.track, Some(done))
+    match done {
+        Some(done) => Ending::Aligned(done),
+        None => Ending::Listed,
+    }
 }
