@@ -115,11 +115,11 @@ fn tell_timeless<R: Eprint>(rt: &R, path: &str, done: &Option<Done>) -> ExitCode
     ensures { exit_status result ≡ 1 }
 {
     let what = "no frame has a time with this format and expression";
-    let _ = eprintln!(rt; "irig_time: {path}: {what}");
+    let status = program().tell_of(rt, 1, path, &what);
     if let Some(done) = done {
         tell_done(rt, done);
     }
-    ExitCode::from(1)
+    status
 }
 
 fn tell_doubted<R: Eprint>(rt: &R, path: &str, count: usize, done: &Option<Done>) -> ExitCode

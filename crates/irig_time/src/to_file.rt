@@ -1,6 +1,6 @@
 //! All goes to a file, whole or not at all: it is kept in memory until the run has ended.
 
-ghost use Rattle.std.specs.Prelude.{◌≡◌, IsTrue, true};
+ghost use Rattle.std.specs.Prelude.{◌≡◌, IsTrue};
 ghost use Rattle.irig_files.specs.Apart.{AreApart};
 ghost use Rattle.irig_time.specs.{Chosen.IsSound, Given.files};
 ghost use Rattle.irig_time.specs.ToFile.{EndsInMemory, Finishes, RanInMemory, WritesTo};
@@ -104,25 +104,9 @@ fn finish<'a, D: Disk>(
         (disk.new ≡ disk.old)) path.entry
         text.now ran.entry result }
 {
-    if has_all(&ran) {
-        put(path, disk, text, room, ran)
-    } else {
-        in_memory(ran)
+    if !has_all(&ran) {
+        return in_memory(ran);
     }
-}
-
-fn put<'a, D: Disk>(
-    path: &'a str,
-    disk: &mut D,
-    text: &[u8],
-    room: &mut Room,
-    ran: Ending<'a>,
-) -> Ending<'a>
-    ensures { Finishes true (files (D.held disk.old) (D.unread disk.old) D.is_told
-        D.usual_mode (D.is_barred disk.old) (D.disk disk.old) (D.disk disk.new)
-        (disk.new ≡ disk.old)) path.entry
-        text.now ran.entry result }
-{
     match disk.put(path, &mut Bytes::new(text), room) {
         Ok(_) => ran,
         Err(_) => Ending::Unwritten(path),
