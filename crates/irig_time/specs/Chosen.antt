@@ -7,8 +7,7 @@ use Rattle.irig_stamps.specs.{declared.picos.Picos.Picos, declared.settings.Form
 use Rattle.irig_stamps.specs.{Ready.IsWithin, declared.settings.Settings.Settings}
 use Rattle.irig_time.specs.Samples.{HasColumns, HasDates, HasName, HasWithin}
 use Rattle.irig_time.specs.Values.{whole_between}
-use Rattle.irig_time.specs.Wants.{has_line_option, is_json_alone, is_not_of_holes, task_of}
-use Rattle.irig_time.specs.Wants.{wants_alone, wants_bound, wants_quiet, wants_table, wants_why}
+use Rattle.irig_time.specs.Wants.{is_json_alone, is_not_of_holes, is_not_of_table, task_of}
 use Rattle.irig_words.specs.Formats.{IsFormat, given, text_or}
 use Rattle.irig_words.specs.Windows.{IsWindow}
 use Rattle.irig_time.specs.declared.samples.Column.{Column}
@@ -29,9 +28,9 @@ pub record HasSettings (a : RawValues) (s : Settings) : Type 0 where
   pub headed : IfSome s.named (λ n. 0 < s.header)
   pub name : HasName a s.comma s.header s.name.now
   pub dates : HasDates a s.century s.year s.form
-  pub alone : s.alone ≡ wants_alone a
-  pub why : s.why ≡ wants_why a
-  pub bound : s.bound ≡ wants_bound a
+  pub alone : s.alone ≡ a.alone
+  pub why : s.why ≡ a.why
+  pub bound : s.bound ≡ a.bound
   pub within : HasWithin a s.within
 
 -- they are within their limits
@@ -57,7 +56,7 @@ pub record IsChosen (a : RawValues) (c : Chosen) : Type 0 where
   pub settings : HasSettings a c.settings
   pub year : lacks_year c.format c.settings ≡ false
   pub task : c.task ≡ task_of a
-  pub quiet : c.quiet ≡ wants_quiet a
-  pub alone : (wants_table a && has_line_option a) ≡ false
+  pub quiet : c.quiet ≡ a.quiet
+  pub alone : is_not_of_table a ≡ false
   pub holes : is_not_of_holes a ≡ false
   pub json : is_json_alone a ≡ false

@@ -1,11 +1,11 @@
 -- Which value of a command line cannot be, and why. This project's own.
-use Rattle.std.specs.Prelude.{◌≡◌, ◌&&◌, ℕ, true, false, Option, Some, None, codes, is_some}
+use Rattle.std.specs.Prelude.{◌≡◌, ℕ, true, false, Option, Some, None, codes, is_some}
 use Rattle.irig_codes.specs.Format.{FormatView}
 use Rattle.irig_stamps.specs.declared.settings.Settings.{Settings}
 use Rattle.irig_time.specs.Chosen.{HasSettings, lacks_year}
 use Rattle.irig_time.specs.Units.{places_named}
 use Rattle.irig_time.specs.Values.{comma_named, form_named, offset_named}
-use Rattle.irig_time.specs.Wants.{has_line_option, is_json_alone, is_not_of_holes, wants_table}
+use Rattle.irig_time.specs.Wants.{is_json_alone, is_not_of_holes, is_not_of_table}
 use Rattle.irig_time.specs.{Names.is_name, Samples.IsComma, Samples.names_column}
 use Rattle.irig_time.specs.Values.{whole_between}
 use Rattle.irig_words.specs.Formats.{HasFormatFault, IsFormat, given, text_or}
@@ -38,6 +38,6 @@ HasFault a fault.Form = form_named (text_or a.form (codes "ordinal")) ≡ None
 HasFault a fault.NoYear =
     (f : FormatView) × (s : Settings) × IsFormat (given a.format) (given a.expression) f
     × HasSettings a s × (lacks_year f s ≡ true)
-HasFault a fault.Table = (wants_table a && has_line_option a) ≡ true
+HasFault a fault.Table = is_not_of_table a ≡ true
 HasFault a fault.Holes = is_not_of_holes a ≡ true
 HasFault a fault.Json = is_json_alone a ≡ true

@@ -4,13 +4,14 @@ ghost use Rattle.std.specs.Prelude.{◌≡◌, IfErr, IfOk, Some, codes, map, st
 ghost use Rattle.clap.specs.Words.{HasMatchesOf, app_of, first_value, found_of};
 ghost use Rattle.irig_time.specs.Chosen.{IsSound};
 ghost use Rattle.irig_time.specs.Options.{the_command};
-ghost use Rattle.irig_time.specs.Settings.{AreValues, Reads};
+ghost use Rattle.irig_time.specs.Settings.{AreValues, Reads, is_on};
 ghost use Rattle.irig_words.specs.Errors.{MayRefuse, WantsMemory};
 ghost use Rattle.irig_words.specs.Usage.{Values};
 
 use crate::chosen::{Chosen, OptionFault};
 use crate::options::chosen_of;
 use crate::raw_values::RawValues;
+use crate::values::is_same;
 use clap::{ArgMatches, Command, Error};
 use irig_words::{Argument, UsageFault, command_of, matches_of};
 use std::alloc::{AllocError, Global};
@@ -99,14 +100,24 @@ fn raw_of<'a>(track: &'a str, matches: &ArgMatches<'a>) -> RawValues<'a>
         year: matches.get_str("year"),
         form: matches.get_str("form"),
         out: matches.get_str("out"),
-        alone: matches.get_str("alone"),
-        why: matches.get_str("why"),
-        bound: matches.get_str("bound"),
+        alone: is_on(matches, "alone"),
+        why: is_on(matches, "why"),
+        bound: is_on(matches, "bound"),
         within: matches.get_str("within"),
-        table: matches.get_str("table"),
-        holes: matches.get_str("holes"),
-        json: matches.get_str("json"),
-        quiet: matches.get_str("quiet"),
+        table: is_on(matches, "table"),
+        holes: is_on(matches, "holes"),
+        json: is_on(matches, "json"),
+        quiet: is_on(matches, "quiet"),
+    }
+}
+
+/// Whether an option without a value is given.
+fn is_on(matches: &ArgMatches<'_>, name: &str) -> bool
+    ensures { result ≡ is_on (first_value (found_of matches.now) name.now) }
+{
+    match matches.get_str(name) {
+        Some(text) => is_same(text.as_bytes(), b"true"),
+        None => false,
     }
 }
 

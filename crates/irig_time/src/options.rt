@@ -1,10 +1,9 @@
 //! What the values of a command line mean.
 
-ghost use Rattle.std.specs.Prelude.{◌≡◌, ◌&&◌, IfErr, IfOk, false};
+ghost use Rattle.std.specs.Prelude.{◌≡◌, IfErr, IfOk, false};
 ghost use Rattle.irig_time.specs.Chosen.{HasSettings, IsChosen, IsSound, lacks_year};
-ghost use Rattle.irig_time.specs.Wants.{has_line_option, is_json_alone, is_not_of_holes, task};
-ghost use Rattle.irig_time.specs.Wants.{task_of, wants_alone, wants_bound, wants_holes, wants_json};
-ghost use Rattle.irig_time.specs.Wants.{wants_quiet, wants_table, wants_why};
+ghost use Rattle.irig_time.specs.Wants.{has_line_option, is_json_alone, is_not_of_holes};
+ghost use Rattle.irig_time.specs.Wants.{is_not_of_table, task, task_of};
 ghost use Rattle.irig_time.specs.Faults.{HasFault};
 
 use crate::chosen::{Chosen, OptionFault};
@@ -12,10 +11,9 @@ use crate::naming::name_of;
 use crate::raw_values::RawValues;
 use crate::samples::{columns_of, dates_of, header_of, within_of};
 use crate::task::Task;
-use crate::values::is_same;
 use irig_codes::Format;
 use irig_stamps::{Form, Settings};
-use irig_words::{format_named, text_or, window_named};
+use irig_words::{format_named, window_named};
 
 /// What the values of a command line ask for.
 pub fn chosen_of<'a>(raw: &RawValues<'a>) -> Result<Chosen<'a>, OptionFault>
@@ -44,19 +42,18 @@ pub fn chosen_of<'a>(raw: &RawValues<'a>) -> Result<Chosen<'a>, OptionFault>
         out: raw.out,
         settings,
         task,
-        quiet: wants_quiet(raw),
+        quiet: raw.quiet,
     })
 }
 
 fn task_of(raw: &RawValues<'_>) -> Result<Task, OptionFault>
     ensures task { IfOk result (λ t. t ≡ task_of raw.now) }
-    ensures alone { IfOk result (λ _. (wants_table raw.now && has_line_option raw.now) ≡ false) }
+    ensures alone { IfOk result (λ _. is_not_of_table raw.now ≡ false) }
     ensures holes { IfOk result (λ _. is_not_of_holes raw.now ≡ false) }
     ensures json { IfOk result (λ _. is_json_alone raw.now ≡ false) }
     ensures fault { IfErr result (HasFault raw.now) }
 {
-    let table = wants_table(raw);
-    if table && has_line_option(raw) {
+    if is_not_of_table(raw) {
         return Err(OptionFault::Table);
     }
     if is_not_of_holes(raw) {
@@ -65,7 +62,7 @@ fn task_of(raw: &RawValues<'_>) -> Result<Task, OptionFault>
     if is_json_alone(raw) {
         return Err(OptionFault::Json);
     }
-    Ok(task(table, wants_holes(raw), wants_json(raw)))
+    Ok(task(raw.table, raw.holes, raw.json))
 }
 
 fn task(table: bool, holes: bool, json: bool) -> Task
@@ -80,62 +77,26 @@ fn task(table: bool, holes: bool, json: bool) -> Task
     }
 }
 
+fn is_not_of_table(raw: &RawValues<'_>) -> bool
+    ensures { result ≡ is_not_of_table raw.now }
+{
+    raw.table && has_line_option(raw)
+}
+
 fn is_not_of_holes(raw: &RawValues<'_>) -> bool
     ensures { result ≡ is_not_of_holes raw.now }
 {
-    wants_holes(raw) && (wants_table(raw) || has_line_option(raw))
+    raw.holes && (raw.table || has_line_option(raw))
 }
 
 fn is_json_alone(raw: &RawValues<'_>) -> bool
     ensures { result ≡ is_json_alone raw.now }
 {
-    wants_json(raw) && !wants_holes(raw)
+    raw.json && !raw.holes
 }
 
-fn wants_table(raw: &RawValues<'_>) -> bool
-    ensures { result ≡ wants_table raw.now }
-{
-    is_same(text_or(raw.table, "false"), b"true")
-}
-
-fn wants_holes(raw: &RawValues<'_>) -> bool
-    ensures { result ≡ wants_holes raw.now }
-{
-    is_same(text_or(raw.holes, "false"), b"true")
-}
-
-fn wants_json(raw: &RawValues<'_>) -> bool
-    ensures { result ≡ wants_json raw.now }
-{
-    is_same(text_or(raw.json, "false"), b"true")
-}
-
-fn wants_quiet(raw: &RawValues<'_>) -> bool
-    ensures { result ≡ wants_quiet raw.now }
-{
-    is_same(text_or(raw.quiet, "false"), b"true")
-}
-
-fn wants_alone(raw: &RawValues<'_>) -> bool
-    ensures { result ≡ wants_alone raw.now }
-{
-    is_same(text_or(raw.alone, "false"), b"true")
-}
-
-fn wants_why(raw: &RawValues<'_>) -> bool
-    ensures { result ≡ wants_why raw.now }
-{
-    is_same(text_or(raw.why, "false"), b"true")
-}
-
-fn wants_bound(raw: &RawValues<'_>) -> bool
-    ensures { result ≡ wants_bound raw.now }
-{
-    is_same(text_or(raw.bound, "false"), b"true")
-}
-
-/// Whether an option is given that says how lines are read or printed, so that the table cannot be
-/// asked for.
+/// Whether an option is given that says how lines are read or printed, so that no list can be asked
+/// for. A name needs a header, which is one.
 fn has_line_option(raw: &RawValues<'_>) -> bool
     ensures { result ≡ has_line_option raw.now }
 {
@@ -143,9 +104,8 @@ fn has_line_option(raw: &RawValues<'_>) -> bool
         || raw.offset.is_some()
         || raw.column.is_some()
         || raw.header.is_some()
-        || raw.name.is_some()
-        || wants_why(raw)
-        || wants_bound(raw)
+        || raw.why
+        || raw.bound
         || raw.within.is_some()
 }
 
@@ -173,9 +133,9 @@ fn settings_of<'a>(raw: &RawValues<'a>) -> Result<Settings<'a>, OptionFault>
         year: dates.year,
         first_day: 0,
         micros: 0,
-        alone: wants_alone(raw),
-        why: wants_why(raw),
-        bound: wants_bound(raw),
+        alone: raw.alone,
+        why: raw.why,
+        bound: raw.bound,
         within,
         form: dates.form,
     })

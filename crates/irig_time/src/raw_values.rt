@@ -1,6 +1,7 @@
 //! The values of a command line as text, before it is tested what they mean.
 
-/// The values of a command line, as they are written; `None` for an option that is not given.
+/// The values of a command line, as they are written; `None` for an option that is not given, and
+/// `false` for one without a value.
 #[derive(Drop)]
 pub struct RawValues<'a> {
     pub track: &'a str,
@@ -18,12 +19,12 @@ pub struct RawValues<'a> {
     pub year: Option<&'a str>,
     pub form: Option<&'a str>,
     pub out: Option<&'a str>,
-    pub alone: Option<&'a str>,
-    pub why: Option<&'a str>,
-    pub bound: Option<&'a str>,
+    pub alone: bool,
+    pub why: bool,
+    pub bound: bool,
     pub within: Option<&'a str>,
-    pub table: Option<&'a str>,
-    pub holes: Option<&'a str>,
-    pub json: Option<&'a str>,
-    pub quiet: Option<&'a str>,
+    pub table: bool,
+    pub holes: bool,
+    pub json: bool,
+    pub quiet: bool,
 }
