@@ -6,7 +6,16 @@ use irig_codes::Format;
 use irig_stamps::Settings;
 use irig_vcd::Window;
 use irig_words::{FormatFault, WindowFault};
-use thiserror::Error;
+use std::fmt;
+use std::fmt::{Display, Formatter, Write};
+
+const NO_YEAR: &str = "--form calendar: frames of this expression have no year, so give --year";
+
+const TABLE: &str = "--table: reads no lines, so without --unit, --offset, --column, --header, \
+     --name, --why, --bound and --within";
+
+const HOLES: &str = "--holes: reads no lines, so without --table, --unit, --offset, --column, \
+     --header, --name, --why, --bound and --within";
 
 /// What a command line asks for.
 #[derive(Drop)]
@@ -30,44 +39,62 @@ pub struct Chosen<'a> {
 }
 
 /// An option with a value that it cannot have.
-#[derive(Clone, Copy, Debug, Error)]
+#[derive(Clone, Copy)]
 pub enum OptionFault {
     /// An option of the window has it.
-    #[error(transparent)]
     Window(WindowFault),
     /// An option of the format has it.
-    #[error(transparent)]
     Format(FormatFault),
-    #[error("--unit: not s, ms, us, ns or ps, nor 10 or 100 of it, as 100ns")]
     Unit,
-    #[error("--offset: not a number in the unit")]
     Offset,
-    #[error("--column: not a number from 1 to 65536")]
     Column,
-    #[error("--column: a name is looked for in the header, so give --header")]
+    /// A column has a name, and there is no header in which it could be.
     Headless,
-    #[error("--comma: not one character of ASCII that no number, word or time has")]
     Comma,
-    #[error("--header: not a number of lines")]
     Header,
-    #[error("--name: has a separator, a quote or an end of a line, or nothing")]
     Name,
-    #[error("--name: there is no header, so give --header")]
+    /// There is no header for the name.
     Unnamed,
-    #[error("--year: not a year of four digits, from 1000 to 9998")]
     Year,
-    #[error("--within: not a number of microseconds")]
     Within,
-    #[error("--form: not ordinal, calendar or seconds")]
     Form,
-    #[error("--form calendar: frames of this expression have no year, so give --year")]
+    /// Dates are asked for, and nothing has a year.
     NoYear,
-    #[error("--table: reads no lines, so without --unit, --offset, --column, --header, --name, \
-         --why, --bound and --within")]
     Table,
-    #[error("--holes: reads no lines, so without --table, --unit, --offset, --column, --header, \
-         --name, --why, --bound and --within")]
     Holes,
-    #[error("--json: is the form of --holes, so give --holes")]
     Json,
+}
+
+impl OptionFault {
+    fn text(self) -> &'static str {
+        match self {
+            Self::Unit => "--unit: not s, ms, us, ns or ps, nor 10 or 100 of it, as 100ns",
+            Self::Offset => "--offset: not a number in the unit",
+            Self::Column => "--column: not a number from 1 to 65536",
+            Self::Headless => "--column: a name is looked for in the header, so give --header",
+            Self::Comma => "--comma: not one character of ASCII that no number, word or time has",
+            Self::Header => "--header: not a number of lines",
+            Self::Name => "--name: has a separator, a quote or an end of a line, or nothing",
+            Self::Unnamed => "--name: there is no header, so give --header",
+            Self::Year => "--year: not a year of four digits, from 1000 to 9998",
+            Self::Within => "--within: not a number of microseconds",
+            Self::Form => "--form: not ordinal, calendar or seconds",
+            Self::NoYear => NO_YEAR,
+            Self::Table => TABLE,
+            Self::Holes => HOLES,
+            Self::Json => "--json: is the form of --holes, so give --holes",
+            // These have a text of their own.
+            Self::Window(_) | Self::Format(_) => "",
+        }
+    }
+}
+
+impl Display for OptionFault {
+    fn fmt<W: Write>(&self, f: &mut Formatter<W>) -> fmt::Result {
+        match self {
+            Self::Window(fault) => fault.fmt(f),
+            Self::Format(fault) => fault.fmt(f),
+            _ => f.write_str(self.text()),
+        }
+    }
 }
