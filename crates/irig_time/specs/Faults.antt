@@ -6,8 +6,8 @@ use Rattle.irig_time.specs.Chosen.{HasSettings, lacks_year}
 use Rattle.irig_time.specs.Units.{places_named}
 use Rattle.irig_time.specs.Values.{comma_named, form_named, offset_named}
 use Rattle.irig_time.specs.Wants.{is_json_alone, is_not_of_holes, is_not_of_table}
-use Rattle.irig_time.specs.{Names.is_name, Samples.IsComma, Samples.names_column}
-use Rattle.irig_time.specs.Values.{whole_between}
+use Rattle.irig_time.specs.Names.{is_name, is_of_bounds}
+use Rattle.irig_time.specs.{Samples.IsComma, Samples.names_column, Values.whole_between}
 use Rattle.irig_words.specs.Formats.{HasFormatFault, IsFormat, given, text_or}
 use Rattle.irig_words.specs.Windows.{HasWindowFault}
 use Rattle.irig_time.specs.declared.raw_values.RawValues.{RawValues}
@@ -30,6 +30,7 @@ HasFault a fault.Comma = comma_named (text_or a.comma (codes "")) ≡ None
 HasFault a fault.Header = whole_between 0 4294967296 (text_or a.header (codes "0")) ≡ None
 HasFault a fault.Name = (comma : Option ℕ) × IsComma a comma
     × (is_name comma (text_or a.name (codes "time")) ≡ false)
+HasFault a fault.OfBounds = is_of_bounds a.bound (text_or a.name (codes "time")) ≡ true
 HasFault a fault.Unnamed = (is_some a.name ≡ true)
     × (whole_between 0 4294967296 (text_or a.header (codes "0")) ≡ Some 0)
 HasFault a fault.Year = whole_between 1000 9998 (text_or a.year (codes "")) ≡ None

@@ -1,6 +1,7 @@
 -- The name of the column of times. This project's own.
 use Rattle.std.specs.Prelude.{◌==◌, ◌&&◌, ◌||◌, ℕ, Bool, not, List, Option, Some, None, length}
-use Rattle.std.specs.List.{list_any}
+use Rattle.std.specs.Prelude.{codes}
+use Rattle.std.specs.{List.list_any, Str.bytes_eq}
 
 -- whether a text has a byte
 abbrev pub has : ℕ → List ℕ → Bool
@@ -17,3 +18,7 @@ abbrev pub is_name : Option ℕ → List ℕ → Bool
 is_name comma name = not (length name == 0)
     && (not (has 34 name) && (not (has 10 name) &&
     (not (has 13 name) && not (has_comma comma name))))
+
+-- the column of bounds is asked for, and has this name
+abbrev pub is_of_bounds : Bool → List ℕ → Bool
+is_of_bounds bound name = bound && bytes_eq name (codes "bound_us")

@@ -6,7 +6,7 @@ use Rattle.irig_stamps.specs.Numbers.{whole_in}
 use Rattle.irig_stamps.specs.{declared.picos.Picos.Picos, declared.settings.Form.Form}
 use Rattle.irig_time.specs.Units.{places_named}
 use Rattle.irig_time.specs.Values.{comma_named, form_named, offset_named}
-use Rattle.irig_time.specs.{Names.is_name, Values.whole_between}
+use Rattle.irig_time.specs.{Names.is_name, Names.is_of_bounds, Values.whole_between}
 use Rattle.irig_time.specs.declared.raw_values.RawValues.{RawValues}
 use Rattle.irig_time.specs.declared.samples.Column.{Column}
 use Rattle.irig_words.specs.Formats.{text_or}
@@ -53,10 +53,12 @@ pub record HasDates (a : RawValues) (century : ℕ) (year : Option ℕ) (form : 
   pub form_is : form_named (text_or a.form (codes "ordinal")) ≡ Some form
   pub year_is : HasYear a century year
 
--- the name of the column of times: time, if none is given; one that is given needs a header
+-- the name of the column of times: time, if none is given, and not that of the bounds; one that is
+-- given needs a header
 pub record HasName (a : RawValues) (comma : Option ℕ) (header : ℕ) (name : List ℕ) : Type 0 where
   pub name_is : name ≡ text_or a.name (codes "time")
   pub sound : is_name comma name ≡ true
+  pub distinct : is_of_bounds a.bound name ≡ false
   pub needed : (is_some a.name && (header == 0)) ≡ false
 
 -- by how many microseconds a time can be off that is printed, if that is given

@@ -53,6 +53,8 @@ pub enum OptionFault {
     Comma,
     Header,
     Name,
+    /// The column of times would have the name of that of the bounds.
+    OfBounds,
     /// There is no header for the name.
     Unnamed,
     Year,
@@ -75,6 +77,7 @@ impl OptionFault {
             Self::Comma => "--comma: not one character of ASCII that no number, word or time has",
             Self::Header => "--header: not a number of lines",
             Self::Name => "--name: has a separator, a quote or an end of a line, or nothing",
+            Self::OfBounds => "--name: bound_us is the name of the column of --bound",
             Self::Unnamed => "--name: there is no header, so give --header",
             Self::Year => "--year: not a year of four digits, from 1000 to 9998",
             Self::Within => "--within: not a number of microseconds",

@@ -3,12 +3,13 @@
 ghost use Rattle.std.specs.Prelude.{◌≡◌, IfErr, IfOk, Some, codes};
 ghost use Rattle.irig_time.specs.Faults.{HasFault};
 ghost use Rattle.irig_time.specs.Samples.{HasName, IsComma};
-ghost use Rattle.irig_time.specs.Names.{has, has_comma, is_name};
+ghost use Rattle.irig_time.specs.Names.{has, has_comma, is_name, is_of_bounds};
 ghost use Rattle.irig_time.specs.Values.{whole_between};
 ghost use Rattle.irig_words.specs.Formats.{text_or};
 
 use crate::chosen::OptionFault;
 use crate::raw_values::RawValues;
+use crate::values::is_same;
 use irig_words::text_or;
 
 /// The name of the column of times (`--name`), `time` if none is given.
@@ -27,10 +28,20 @@ pub fn name_of<'a>(
     if !is_name(comma, name) {
         return Err(OptionFault::Name);
     }
+    if is_of_bounds(raw.bound, name) {
+        return Err(OptionFault::OfBounds);
+    }
     if raw.name.is_some() && header == 0 {
         return Err(OptionFault::Unnamed);
     }
     Ok(name)
+}
+
+/// Whether the column of bounds is asked for, and has this name.
+fn is_of_bounds(bound: bool, name: &[u8]) -> bool
+    ensures { result ≡ is_of_bounds bound name.now }
+{
+    bound && is_same(name, b"bound_us")
 }
 
 fn is_name(comma: Option<u8>, name: &[u8]) -> bool
