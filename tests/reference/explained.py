@@ -1,5 +1,6 @@
 """From the cheapest explanation of a recording to the times of its samples: elements counted on, the time of each frame by the same
-recursion over frames, and the time of a moment between two rises. It reads no year: day 365 can be followed by day 1 or 366.
+recursion over frames, and the time of a moment between two rises. It reads no year: day 365 can be followed by day 1 or 366. A minute can
+have a second 60, which costs what a jump of the time does.
 """
 from __future__ import annotations
 
@@ -9,7 +10,7 @@ from typing import Dict, FrozenSet, Iterator, List, NamedTuple, Optional, Sequen
 
 from reference import timecode
 from reference.explanation import (
-    BIT, JUMPS, NEXT, PART, POSITION, SURE, UNUSED, WIDTH, Given, Prices, Pulse, Tables, ahead, logarithm, margins)
+    BIT, CANNOT, JUMPS, NEXT, PART, POSITION, SURE, UNUSED, WIDTH, Given, Prices, Pulse, Tables, ahead, logarithm, margins)
 
 SET = 176  # the time of the code jumps, and the logarithm of how many frames by: whole frames are lost, or a clock is set
 OTHER = 224  # a time of a frame that is no candidate
@@ -28,7 +29,8 @@ DAY, MINUTE = 24 * 60 * 6000, 6000  # hundredths of a second
 
 
 class Code:
-    """A format and expression: times are counted in frames from the begin of a year of 366 days."""
+    """A format and expression: times are counted in frames from the begin of a year of 366 days. Those of a second 60 are two years later
+    than those of the second before it."""
 
     def __init__(self, kind: str, expression: int) -> None:
         self.period = timecode.INTERVAL[kind] // 100  # hundredths of a second
@@ -40,16 +42,27 @@ class Code:
         self.bits = sorted(element for digits in self.fields.values() for rows in digits for element, _ in rows)
         self.minute, self.day = MINUTE // self.period, DAY // self.period
         self.year = 366 * self.day
+        self.second, self.inserted = 100 // self.period, 2 * self.year
         self._ones: Dict[int, FrozenSet[int]] = {}
 
     def values(self, time: int) -> Dict[str, int]:
         day, rest = divmod(time % self.year * self.period, DAY)
-        return {"days": day + 1, "hours": rest // 360000, "minutes": rest // 6000 % 60, "seconds": rest // 100 % 60,
-                "hundredths": rest % 100, "sbs": rest // 100}
+        more = int(time >= self.inserted)
+        return {"days": day + 1, "hours": rest // 360000, "minutes": rest // 6000 % 60, "seconds": rest // 100 % 60 + more,
+                "hundredths": rest % 100, "sbs": rest // 100 + more}
+
+    def is_time(self, time: int) -> bool:
+        """Whether a frame can have a time: only the last second of a minute has a second 60 after it."""
+        return time < self.inserted or time % self.minute >= self.minute - self.second
+
+    def inserts(self, base: int, other: int, time: int) -> bool:
+        """Whether a second 60 begins or ends with a time, if the frames before it are of one base, and those from it on of another."""
+        begins = other == self.inserted + (base - self.second) % self.year and time % self.minute == self.minute - self.second
+        return begins or base == self.inserted + other and time % self.minute == 0
 
     def ones(self, time: int) -> FrozenSet[int]:
         """The elements of the frame's time that are one."""
-        time %= self.year
+        time = time % self.year + (self.inserted if time >= self.inserted else 0)
         if time not in self._ones:
             values = self.values(time)
             self._ones[time] = frozenset(
@@ -79,6 +92,8 @@ class Frame:
         self.own = 0
 
     def cost(self, code: Code, base: int) -> int:
+        if not code.is_time(base + self.number):
+            return CANNOT
         ones = code.ones(base + self.number)
         return sum(self.costs[element][element in ones] for element in code.bits)
 
@@ -218,6 +233,8 @@ class Times:
         if base is None or other is None:
             return 0 if base == other else SET
         frame, before = self.frames[place], self.frames[place - 1]
+        if frame.stretch == before.stretch and base != other and max(base, other) >= self.code.inserted:
+            return self._inserted(base, other, other + frame.number)
         if frame.stretch == before.stretch:
             far = self.code.far(base + before.number, other + frame.number)
             return SET + logarithm(1 + far) if far else 0
@@ -225,6 +242,12 @@ class Times:
         gone = last.element + self.prices.gone(last.rise, first.rise) - first.element  # elements that the frame numbers are apart
         far = min(self.code.far(base + number, other) for number in (gone // 100 - 1, (gone + 99) // 100 - 1))
         return logarithm(1 + far)
+
+    def _inserted(self, base: int, other: int, time: int) -> int:
+        """The same if one of both is in a second 60."""
+        if not self.code.inserts(base, other, time):
+            return CANNOT
+        return 0 if base >= self.code.inserted else SET
 
     def _candidates(self) -> Dict[int, Set[int]]:
         """For each stretch the times that frame 0 can have."""
@@ -243,7 +266,17 @@ class Times:
                 one, other = sorted(found[stretch - 1])[:6], sorted(found[stretch])[:6]
                 found[stretch] |= {(base + by) % self.code.year for base in one}
                 found[stretch - 1] |= {(base - by) % self.code.year for base in other}
+        for stretch, times in found.items():
+            times |= set(self._inserted_in(stretch, times))
         return found
+
+    def _inserted_in(self, stretch: int, times: Set[int]) -> Iterator[int]:
+        """The times of seconds 60 between two times of which the second is one second less than the first."""
+        for base in times if self.code.second else ():
+            later = (base - self.code.second) % self.code.year
+            mine = (base + frame.number for frame in self.frames if frame.stretch == stretch)
+            if later in times and any(time % self.code.minute == 0 for time in mine):
+                yield self.code.inserted + later
 
     def _near_times(self, frame: Frame, got: Set[int]) -> None:
         """Adds the times less than a hundred frames from a known one that are not excluded by what the jump costs."""
@@ -269,7 +302,8 @@ class Times:
     # -- the time of a moment
 
     def when(self, moment: float) -> Optional[float]:
-        """The hundredths of a second since the begin of the year at a moment, or None if that is not sure."""
+        """The hundredths of a second since the begin of the year at a moment, or None if that is not sure; in a second 60 they are those of
+        the second before it, and of two years more."""
         stretch = next((number for number, knowns in enumerate(self.stretches)
                         if self.rises[knowns[0].rise] <= moment < self.rises[knowns[-1].rise]), None)
         if stretch is None:
@@ -284,7 +318,10 @@ class Times:
         begin, end = self.rises[one.rise], self.rises[other.rise]
         element = one.element + (moment - begin) / (end - begin) * (other.element - one.element)
         base = self._base(stretch, int(element))
-        return None if base is None else (base * 100 + element) % (100 * self.code.year) * self.code.period / 100
+        if base is None:
+            return None
+        more = self.code.inserted if base >= self.code.inserted else 0
+        return (100 * more + (base * 100 + element) % (100 * self.code.year)) * self.code.period / 100
 
     def _base(self, stretch: int, element: int) -> Optional[int]:
         """The time of frame 0 by that of an element's frame, if it cannot have jumped there and no frame next to it is unsure."""
@@ -310,6 +347,7 @@ class Times:
                 continue
             between = self.frames[self.place[one.stretch, one.number] + 1:self.place[other.stretch, other.number]]
             goes_on = not self.code.far(one.base + other.number - 1, other.base + other.number)
+            goes_on |= self.code.inserts(one.base, other.base, other.base + other.number)
             if goes_on or any(not frame.near <= {one.base, other.base} for frame in between):
                 continue
             first, last = self._where(one, other)
