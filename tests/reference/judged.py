@@ -4,20 +4,23 @@ from typing import Dict, Iterator, List, Optional, Sequence, Set, Tuple
 from reference import guard, language, machine
 from reference.guard_law import Safety
 from reference.law import Law
+from reference.reading import Move
 
 
 class Judged:
-    """A run over a proposed script. `kept` are the places of the lines that are kept, `reasons` why another one is not."""
+    """A run over a proposed script, from what was kept before. `kept` are the places of the lines that are kept, `reasons` why another one
+    is not. If a script may move pulses, a line `shift` says where they were recorded."""
 
-    def __init__(self, opened: machine.State, lines: Sequence[bytes]) -> None:
-        self.opened, self.lines, self.safety = opened, lines, Safety(opened)
-        self.now = self.safety.law
+    def __init__(self, before: machine.State, lines: Sequence[bytes], safety: Optional[Safety] = None, may_move: bool = False) -> None:
+        self.before, self.lines, self.safety, self.may_move = before, lines, safety or Safety(before), may_move
+        self.now = Law(before.kind, before.expression, before.pulses())
+        self.moves: Tuple[Move, ...] = ()
         self.kept: Set[int] = set()
         self.reasons: Dict[int, str] = {}
         self.repairs = list(repairs(lines))
-        left, before = [edits for edits in map(self.edits_of, self.repairs) if edits], None
-        while left and self.kept != before:  # what is dropped is tried again until nothing changes
-            before = set(self.kept)
+        left, last = [edits for edits in map(self.edits_of, self.repairs) if edits], None
+        while left and self.kept != last:  # what is dropped is tried again until nothing changes
+            last = set(self.kept)
             self.keep(left)
             left = [rest for rest in ([place for place in edits if place not in self.kept] for edits in left) if rest]
 
@@ -45,16 +48,18 @@ class Judged:
 
     def tried(self, places: List[int]) -> Optional[str]:
         """Why some lines cannot be kept, too, each at its place in the script."""
-        state = self.opened
+        state, moves = self.before, []
         for place in sorted({*self.kept, *places}):
             try:
                 word, arguments = language.parse(state, self.lines[place])
+                moves += [moved(state, *arguments)] if self.may_move and word == "shift" else []
                 state = guard.EDITS[word](state, *arguments)
             except machine.Refused as refused:
                 return guard.REFUSED + str(refused)
         now = Law(state.kind, state.expression, state.pulses())
-        reason = self.safety.fault(self.now, now)
-        self.now = self.now if reason else now
+        reason = self.safety.fault(self.now, now, tuple(moves))
+        if not reason:
+            self.now, self.moves = now, tuple(moves)
         return reason
 
     def printed(self, repair: range) -> List[bytes]:
@@ -73,6 +78,13 @@ class Judged:
         return found
 
 
+def moved(state: machine.State, first: int, last: int, by: int) -> Move:
+    """What a line `shift` says: from where to where pulses were recorded too early."""
+    state_pulses = state.pulses()
+    machine.need(state.has_pulses(first, last), "E2")
+    return Move(state_pulses[first - 1][0], state_pulses[last - 1][1], by)
+
+
 def repairs(lines: Sequence[bytes]) -> Iterator[range]:
     """The places of the lines of each repair."""
     at = 0
@@ -81,7 +93,9 @@ def repairs(lines: Sequence[bytes]) -> Iterator[range]:
         at += len(repair)
 
 
-def judge(recording: machine.State, lines: Sequence[bytes]) -> Tuple[List[bytes], List[str]]:
-    """The lines that are kept, the others as comments after the reason; and what is said of guesses."""
-    found = Judged(recording, lines)
-    return [line for repair in found.repairs for line in found.printed(repair)], found.safety.guesses(found.now)
+def judge(recording: machine.State, lines: Sequence[bytes], others: Sequence[machine.State] = (), before: Optional[machine.State] = None,
+          may_move: bool = False) -> Tuple[List[bytes], List[str]]:
+    """The lines that are kept, the others as comments after the reason; and what is said of guesses. The script goes on from `before`, if
+    something was kept before."""
+    found = Judged(before or recording, lines, Safety(recording, others), may_move)
+    return [line for repair in found.repairs for line in found.printed(repair)], found.safety.guesses(found.now, found.moves)

@@ -2,13 +2,14 @@
 
 The recordings are made as those of the law of time are. The marker of frame 0 rises at 1,000,000 microseconds and is pulse 2.
 """
-from typing import NamedTuple, Sequence, Tuple
+from typing import NamedTuple, Optional, Sequence, Tuple
 
 from rows.law import LONG, Pulses, code, cut, later, place, seconds, wide, without
 
 
 class Row(NamedTuple):
-    """`wanted` are the lines that are printed, `guesses` the moments of the pulses whose class is a guess."""
+    """`wanted` are the lines that are printed, `guesses` the moments of the pulses whose class is a guess. `before` is what was kept
+    before, if that is not the recording, `others` are other recordings."""
 
     name: str
     pulses: Pulses
@@ -17,6 +18,9 @@ class Row(NamedTuple):
     guesses: Sequence[int] = ()
     kind: str = "B"
     expression: int = 2
+    before: Optional[Pulses] = None
+    others: Sequence[Pulses] = ()
+    may_move: bool = False
 
 
 def at(frame: int, element: int) -> int:
@@ -49,6 +53,17 @@ def parted(pulses: Pulses, frame: int, element: int) -> Pulses:
     return sorted([*without(pulses, place(frame, element)), (rise, rise + 900), (rise + 1000, fall)])
 
 
+def turned(pulses: Pulses, begin: int, end: int) -> Pulses:
+    """The wire is upside down from a moment up to another one."""
+    edges = sorted({edge for pulse in pulses for edge in pulse} ^ {begin, end})
+    return list(zip(edges[::2], edges[1::2]))
+
+
+def longer(pulses: Pulses, micros: int) -> Pulses:
+    """Each pulse lasts longer, as with another threshold."""
+    return [(rise, fall + micros) for rise, fall in pulses]
+
+
 ANOTHER, GONE = "the moment %d would have another time", "the pulse at %d is in step, and would be gone"
 NO_ELEMENT, OTHER_CLASS = "the pulse at %d would be no element that is sure", "the pulse at %d would be of another class than is sure"
 
@@ -57,6 +72,12 @@ FIVE = code("B", *seconds(54, 55, 56, 57, 58))
 LOST = without(FIVE, place(3, 30))
 CONTROLS = code("B", *seconds(54, 55, 56, 57, 58), expression=1, control=0b100)  # element 52 is a one
 SET = code("B", *seconds(54, 55, 56), "061T17:05:20", "061T17:05:21", "061T17:05:22")
+
+MINUTE_61 = code("B", "061T23:59:57", "061T23:59:58", "061T23:59:59", "061T23:59:60", "062T00:00:00", "062T00:00:01", "062T00:00:02")
+ONE_FRAME = wide(code("B", *seconds(54, 55, 56, 57, 58), expression=1), 5000, place(2, 52))  # element 52 is a one in frame 2 alone
+TWO_LOST = without(FIVE, place(3, 30), place(3, 40))
+NO_CONTROL, WRONG_CONTROL = without(CONTROLS, place(2, 52)), wide(CONTROLS, 2000, place(2, 52))
+WAITED, DOWN = later(FIVE, place(2, 45), 30000), (at(2, 40) - 1000, at(2, 80) - 1000)
 
 ROWS = [
     Row("a lost pulse", LOST, [insert(3, 30, 5000)], [insert(3, 30, 5000)]),
@@ -110,4 +131,46 @@ ROWS = [
     Row("no repair", FIVE, ["list", "begin", insert(3, 30, 5000)],
         [*dropped("not a repair", "list"), *dropped("not a repair", "begin", insert(3, 30, 5000))]),
     Row("a line that the editor refuses", FIVE, ["9999 delete"], dropped("refused: E2 NoPulse", "9999 delete")),
+
+    Row("a session goes on", TWO_LOST, [insert(3, 30, 5000)], [insert(3, 30, 5000)], before=LOST),
+    # what was written before is no recording: the row of a recorded control function has the same script
+    Row("what was written wrong is written right", NO_CONTROL, ["%d force one" % number(2, 52)], ["%d force one" % number(2, 52)],
+        before=WRONG_CONTROL, expression=1),
+    Row("what was recorded wrong is not", WRONG_CONTROL, ["%d force one" % number(2, 52)],
+        dropped(OTHER_CLASS % at(2, 52), "%d force one" % number(2, 52)), expression=1),
+    Row("what was kept before is deleted", LOST, ["%d delete" % number(3, 30)], ["%d delete" % number(3, 30)], before=FIVE),
+
+    Row("a lost control function, as another recording has it", without(ONE_FRAME, place(2, 52)), [insert(2, 52, 5000)],
+        [insert(2, 52, 5000)], expression=1, others=[later(ONE_FRAME, 0, 123456)]),
+    Row("a lost control function, as another recording has it not", without(ONE_FRAME, place(2, 52)), [insert(2, 52)],
+        dropped(OTHER_CLASS % at(2, 52), insert(2, 52)), expression=1, others=[later(ONE_FRAME, 0, 123456)]),
+    Row("a control function that two recordings have otherwise", wide(ONE_FRAME, 2000, place(2, 52)), ["%d force one" % number(2, 52)],
+        ["%d force one" % number(2, 52)], expression=1, others=[ONE_FRAME, later(ONE_FRAME, 0, 123456)]),
+    Row("one that one other recording has otherwise", wide(ONE_FRAME, 2000, place(2, 52)), ["%d force one" % number(2, 52)],
+        dropped(OTHER_CLASS % at(2, 52), "%d force one" % number(2, 52)), expression=1, others=[ONE_FRAME]),
+    Row("another recording of another hour says nothing", without(ONE_FRAME, place(2, 52)), [insert(2, 52, 5000)], [insert(2, 52, 5000)],
+        [at(2, 52)], expression=1, others=[wide(code("B", *seconds(-54, -55, -56, -57, -58), expression=1), 5000, place(2, 52))]),
+
+    Row("a lost pulse of a second 60", without(MINUTE_61, place(3, 30)), [insert(3, 30, 5000)], [insert(3, 30, 5000)]),
+    Row("a frame of a second 60 is written as the next one", without(MINUTE_61, *range(place(3, 10), place(3, 60))),
+        ["regen %d 1 2024-062T00:00:00" % at(3, 0)], dropped(OTHER_CLASS % at(3, 7), "regen %d 1 2024-062T00:00:00" % at(3, 0))),
+
+    Row("a code that waited is moved", WAITED, ["%d,$ shift -30000" % number(2, 45)], ["%d,$ shift -30000" % number(2, 45)], may_move=True),
+    Row("nobody said that it may be moved", WAITED, ["%d,$ shift -30000" % number(2, 45)],
+        dropped(GONE % at(5, 0), "%d,$ shift -30000" % number(2, 45))),
+    Row("it is moved, and a pulse is deleted", WAITED, ["%d,$ shift -30000" % number(2, 45), "%d delete" % number(3, 50)],
+        ["%d,$ shift -30000" % number(2, 45), *dropped(GONE % at(3, 50), "%d delete" % number(3, 50))], may_move=True),
+    Row("it is moved, and a lost pulse is written as another class", without(WAITED, place(3, 30)),
+        ["%d,$ shift -30000" % number(2, 45), insert(3, 30)],
+        ["%d,$ shift -30000" % number(2, 45), *dropped(OTHER_CLASS % at(3, 30), insert(3, 30))], may_move=True),
+
+    Row("a wire is upside down", turned(FIVE, *DOWN), ["invert %d %d" % DOWN], ["invert %d %d" % DOWN]),
+    # where the wire is turned over again there is a pulse that nobody sent
+    Row("half of what is upside down is turned over", turned(FIVE, *DOWN), ["invert %d %d" % (DOWN[0], at(2, 60) - 1000)],
+        dropped(NO_ELEMENT % (at(2, 60) - 1000), "invert %d %d" % (DOWN[0], at(2, 60) - 1000))),
+    Row("what is upright is turned over", FIVE, ["invert %d %d" % DOWN], dropped(NO_ELEMENT % DOWN[0], "invert %d %d" % DOWN)),
+
+    Row("a threshold that is wrong", longer(FIVE, 1800), ["%d force one" % number(3, 30)], ["%d force one" % number(3, 30)]),
+    Row("a threshold that is wrong, another class", longer(FIVE, 1800), ["%d force zero" % number(3, 30)],
+        dropped(OTHER_CLASS % at(3, 30), "%d force zero" % number(3, 30))),
 ]
