@@ -324,12 +324,12 @@ class Times:
         return (100 * more + (base * 100 + element) % (100 * self.code.year)) * self.code.period / 100
 
     def _base(self, stretch: int, element: int) -> Optional[int]:
-        """The time of frame 0 by that of an element's frame, if it cannot have jumped there and no frame next to it is unsure."""
+        """The time of frame 0 by that of an element's frame, if it cannot have jumped between that and the element."""
         number = element // 100
-        frames = [self.frames[self.place[stretch, each]] for each in (number - 1, number, number + 1) if (stretch, each) in self.place]
-        if any(frame.base is None and not frame.between for frame in frames):
+        frame = self.frames[self.place[stretch, number]]
+        if frame.base is None and not frame.between:
             return None
-        base = self.frames[self.place[stretch, number]].base
+        base = frame.base
         for jump in self.jumps:
             if jump.stretch == stretch and jump.first - 1 <= element <= jump.last:
                 return None
@@ -337,7 +337,27 @@ class Times:
                 base = jump.after
             if jump.stretch == stretch and 100 * jump.start + 99 < element < jump.first:
                 base = jump.before
-        return base
+        return None if base is None or self._can_jump(frame, base, -1, element) or self._can_jump(frame, base, 1, element) else base
+
+    def _can_jump(self, frame: Frame, base: int, by: int, element: int) -> bool:
+        """Whether the time can jump between an element and the frame before its own, or the one after it, which is not sure: to a time
+        that this can have, at a place that costs less than the margin more than no jump."""
+        beside = self.place.get((frame.stretch, frame.number + by))
+        if beside is None or self.frames[beside].base is not None or self.frames[beside].between:
+            return False
+        return any(other is None or other != base and self._reaches(frame, base, other, by, element) for other in self.frames[beside].near)
+
+    def _reaches(self, frame: Frame, base: int, other: int, by: int, element: int) -> bool:
+        """Whether elements from the far end of the frame next to one up to an element can have another time: up to the one before it, if
+        the time jumps after it, since it can do so before the next rise."""
+        after = frame.number + max(by, 0)
+        times = (other, base) if by < 0 else (base, other)
+        cost = SET + logarithm(1 + self.code.far(times[0] + after - 1, times[1] + after))
+        for each in range(100 * (after - 1), 100 * after + 100)[::-by]:
+            cost += self._element_cost(frame.stretch, each, other) - self._element_cost(frame.stretch, each, base)
+            if cost < self.least_margin and (each >= element if by < 0 else each <= element + 1):
+                return True
+        return False
 
     def _jumps(self) -> Iterator[Jumped]:
         """Where the time jumps between two sure frames, if those between them have one of both times."""
