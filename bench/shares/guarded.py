@@ -16,7 +16,7 @@ from irig_tools.script import Repair
 from judge import right, seen_as
 from recordings import Recording, samples
 from reference import dump, law, machine
-from repaired import is_right, link, made
+from repaired import frames_of, is_right, link, made
 
 
 class Quick(machine.State):
@@ -50,9 +50,9 @@ class Proposed(NamedTuple):
 
 def proposed_for(programs: str, kind: str, seed: int, most: int) -> Optional[Proposed]:
     """What irig_mend proposes, and what irig_guard makes of it; None if that is nothing, or if the recording has more frames than that."""
-    recording, sound = made(kind, seed)
-    if recording.frames > most:
+    if frames_of(kind, seed) > most:
         return None
+    recording, sound = made(kind, seed)
     with tempfile.TemporaryDirectory(prefix="guard-") as folder:
         link(programs, folder)
         path = os.path.join(folder, "track.vcd")

@@ -28,6 +28,11 @@ def link(programs: str, folder: str) -> None:
     os.environ["IRIG_ED"] = os.path.join(folder, "irig_ed")
 
 
+def frames_of(kind: str, seed: int) -> int:
+    """How many frames a recording has."""
+    return Draft(kind, seed, {**KINDS, **ATTACKS, **DENSE}[kind].formats).frames
+
+
 def made(kind: str, seed: int) -> Tuple[Recording, List[Pulse]]:
     """A recording, and its pulses without any damage of the code: those that the recorder would have written then."""
     what = {**KINDS, **ATTACKS, **DENSE}[kind]

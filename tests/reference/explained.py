@@ -118,15 +118,16 @@ class Jumped(NamedTuple):
 
 
 class Times:
-    """The times that the cheapest explanation of a recording gives, of those that are sure by a margin."""
+    """The times that the cheapest explanation of a recording gives, of those that are sure by a margin; also by one that ends before, or
+    begins after, if that is asked: it says nothing of the time there, but nobody knows whether code was sent."""
 
-    def __init__(self, pulses: Sequence[Pulse], kind: str, expression: int, least_margin: int = SURE) -> None:
+    def __init__(self, pulses: Sequence[Pulse], kind: str, expression: int, least_margin: int = SURE, ends: bool = True) -> None:
         self.code, self.least_margin = Code(kind, expression), least_margin
         self.prices = Prices(pulses, timecode.INTERVAL[kind], self.code.roles)
         self.rises = self.prices.rises
         tables = Tables(self.prices)
         self.claims = tables.explain()
-        self.margins = margins(tables, Given(self.prices, self.claims), self.least_margin)
+        self.margins = margins(tables, Given(self.prices, self.claims), self.least_margin, ends)
         self.cost = tables.cost
         self.stretches: List[List[Known]] = []
         self.frames: List[Frame] = []

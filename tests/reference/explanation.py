@@ -435,17 +435,18 @@ class Given:
         return all(self.goes_on[rise:later])
 
 
-def margins(tables: Tables, given: Given, most: int = 2 * SURE) -> List[int]:
-    """For each interval after a rise how much dearer the cheapest explanation is that has something else there, up to a bound."""
+def margins(tables: Tables, given: Given, most: int = 2 * SURE, ends: bool = True) -> List[int]:
+    """For each interval after a rise how much dearer the cheapest explanation is that has something else there, up to a bound; also one that
+    ends before or begins after, if that is asked."""
     count = tables.count
     found = [most] * count
-    ends, begins = most, most
-    for rise in range(count):  # those that end before
-        ends = min(ends, tables.lowest_before[rise] + SKIP * (count - rise - 1) - tables.cost)
-        found[rise] = min(found[rise], ends)
-    for rise in reversed(range(count)):  # those that begin after
-        found[rise] = min(found[rise], begins)
-        begins = min(begins, tables.lowest_after[rise] + SKIP * rise - tables.cost)
+    before, after = most, most
+    for rise in range(count) if ends else ():  # those that end before
+        before = min(before, tables.lowest_before[rise] + SKIP * (count - rise - 1) - tables.cost)
+        found[rise] = min(found[rise], before)
+    for rise in reversed(range(count)) if ends else ():  # those that begin after
+        found[rise] = min(found[rise], after)
+        after = min(after, tables.lowest_after[rise] + SKIP * rise - tables.cost)
     for rise in range(count):
         last = min(count, rise + WINDOW + 1)
         floor = tables.lowest_before[rise] + min(tables.lowest_after[rise + 1:last], default=0)

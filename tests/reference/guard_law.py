@@ -102,14 +102,8 @@ class Safety:
             return LOST if was else None
         told = recorded.known(moment)
         if told is None:
-            return None if self.is_at_end(recorded, moment) else UNSURE
+            return UNSURE
         return None if apart(told.time, new.time) <= told.off + off(now, new) else OTHER
-
-    def is_at_end(self, recorded: Recorded, moment: Fraction) -> bool:
-        """Whether a moment is in the first or the last step of the recording, and that is in step: no explanation is sure of it, since no
-        pulse beyond it shows that the last one is an element, but time goes on."""
-        rises, in_step = recorded.rises, self.law.in_step
-        return len(rises) > 1 and (in_step[1] and rises[0] <= moment < rises[1] or in_step[-1] and rises[-2] <= moment < rises[-1])
 
     # ---- pulses
 

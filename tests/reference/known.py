@@ -39,8 +39,9 @@ class Recorded:
 
     @cached_property
     def sure(self) -> explained.Times:
-        """What is sure, if it is asked for."""
-        return explained.Times(self.read, self.kind, self.expression, SURE)
+        """What is sure, if it is asked for. An explanation that ends earlier does not count: time goes on, and the fewer pulses come after a
+        place, the cheaper it is that they are none."""
+        return explained.Times(self.read, self.kind, self.expression, SURE, False)
 
     # ---- times
 
@@ -59,15 +60,18 @@ class Recorded:
 
     @lru_cache(None)
     def known(self, moment: Fraction) -> Optional[Known]:
-        """That, or else the time that is sure; none next to a pulse that the law of time doubts: two pulses of that frame of the code
-        deny, so two events can be there, which look like damage."""
-        own, later = self.own(moment), bisect_right(self.rises, moment)
-        if own is not None:
+        """That, or else the time that is sure; none next to a pulse that the law of time doubts."""
+        own = self.own(moment)
+        if own is not None or self.is_doubtful(moment):
             return own
-        if any(each.place in self.law.doubtful for each in self.carried[max(0, later - 1):later + 1]):
-            return None
         sure = self.sure.when(moment)
         return None if sure is None else Known(of_hundredths(sure), NEAR * self.interval)
+
+    def is_doubtful(self, moment: Fraction) -> bool:
+        """Whether the law of time doubts a pulse next to a moment: two pulses of that frame of the code deny, so two events can be there,
+        which look like damage."""
+        later = bisect_right(self.rises, moment)
+        return any(each.place in self.law.doubtful for each in self.carried[max(0, later - 1):later + 1])
 
     # ---- control functions
 

@@ -109,6 +109,10 @@ ROWS = [
     Row("a wait of three intervals is filled", later(FIVE, place(2, 45), 30000), [insert(2, 45)],
         dropped(NO_ELEMENT % at(2, 45), insert(2, 45))),
     Row("the code goes on after its end", FIVE, [insert(5, 0, 8000)], dropped(NO_ELEMENT % at(5, 0), insert(5, 0, 8000))),
+    # an explanation that ends before says nothing of the time
+    Row("the last pulse but one is lost", without(FIVE, place(4, 98)), [insert(4, 98)], [insert(4, 98)]),
+    Row("the last pulse but two is lost, as another class", without(FIVE, place(4, 97)), [insert(4, 97, 8000)],
+        dropped(OTHER_CLASS % at(4, 97), insert(4, 97, 8000))),
     Row("a frame is written with its time", without(LONG, *range(place(4, 10), place(4, 60))),
         ["regen %d 1 2024-061T12:34:34" % at(4, 0)], ["regen %d 1 2024-061T12:34:34" % at(4, 0)]),
     # 35 and 34 seconds differ in element 1
