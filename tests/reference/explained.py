@@ -272,12 +272,11 @@ class Times:
         return found
 
     def _inserted_in(self, stretch: int, times: Set[int]) -> Iterator[int]:
-        """The times of seconds 60 between two times of which the second is one second less than the first."""
+        """The times of a second 60, if a minute ends in a stretch: after the frames with a time, or before them."""
         for base in times if self.code.second else ():
-            later = (base - self.code.second) % self.code.year
             mine = (base + frame.number for frame in self.frames if frame.stretch == stretch)
-            if later in times and any(time % self.code.minute == 0 for time in mine):
-                yield self.code.inserted + later
+            if any(time % self.code.minute == 0 for time in mine):
+                yield from (self.code.inserted + (base - by) % self.code.year for by in (self.code.second, 0))
 
     def _near_times(self, frame: Frame, got: Set[int]) -> None:
         """Adds the times less than a hundred frames from a known one that are not excluded by what the jump costs."""

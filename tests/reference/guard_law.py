@@ -102,8 +102,14 @@ class Safety:
             return LOST if was else None
         told = recorded.known(moment)
         if told is None:
-            return UNSURE
+            return None if self.is_at_end(recorded, moment) else UNSURE
         return None if apart(told.time, new.time) <= told.off + off(now, new) else OTHER
+
+    def is_at_end(self, recorded: Recorded, moment: Fraction) -> bool:
+        """Whether a moment is in the first or the last step of the recording, and that is in step: a recording begins and ends within an
+        element, so its first pulse and its last one can look like none. But time goes on."""
+        rises, in_step = recorded.rises, self.law.in_step
+        return len(rises) > 1 and (in_step[1] and rises[0] <= moment < rises[1] or in_step[-1] and rises[-2] <= moment < rises[-1])
 
     # ---- pulses
 

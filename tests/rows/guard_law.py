@@ -156,6 +156,7 @@ ROWS = [
         [at(2, 52)], expression=1, others=[wide(code("B", *seconds(-54, -55, -56, -57, -58), expression=1), 5000, place(2, 52))]),
 
     Row("a lost pulse of a second 60", without(MINUTE_61, place(3, 30)), [insert(3, 30, 5000)], [insert(3, 30, 5000)]),
+    Row("a recording ends in a second 60", without(MINUTE_61, place(3, 30))[:400], [insert(3, 30, 5000)], [insert(3, 30, 5000)]),
     Row("a frame of a second 60 is written as the next one", without(MINUTE_61, *range(place(3, 10), place(3, 60))),
         ["regen %d 1 2024-062T00:00:00" % at(3, 0)], dropped(OTHER_CLASS % at(3, 7), "regen %d 1 2024-062T00:00:00" % at(3, 0))),
 
