@@ -413,11 +413,11 @@ class Times:
         first = next(each for each in line if each.element >= one.element - reach)
         last = line[bisect_right(line, (other.element + reach, len(self.rises))) - 1]
         parts = [(a, b) for a, b in ((first, one), (other, last)) if a != b]
-        sides = [PART * (self.rises[b.rise] - self.rises[a.rise]) // (b.element - a.element) for a, b in parts]
-        if not sides:
+        beside = sum(b.element - a.element for a, b in parts)
+        if not beside:
             return False
         tolerance = max(interval // OFF, 2 * self.prices.clock.spread)
-        if abs(far - count * sum(sides) // len(sides)) > tolerance:
+        if abs(far - count * PART * sum(self.rises[b.rise] - self.rises[a.rise] for a, b in parts) // beside) > tolerance:
             return False
         bend = self._bend(count)
         return bend is not None and bend <= tolerance
