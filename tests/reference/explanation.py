@@ -436,8 +436,8 @@ class Given:
 
 
 def margins(tables: Tables, given: Given, most: int = 2 * SURE, ends: bool = True) -> List[int]:
-    """For each interval after a rise how much dearer the cheapest explanation is that has something else there, up to a bound; also one that
-    ends before or begins after, if that is asked."""
+    """For each interval after a rise how much dearer the cheapest explanation is that has something else there, up to a bound; also one
+    that ends before or begins after, if that is asked."""
     count = tables.count
     found = [most] * count
     before, after = most, most

@@ -12,7 +12,7 @@ from fractions import Fraction
 from functools import lru_cache
 from typing import Iterator, List, NamedTuple, Optional, Sequence, Set, Tuple
 
-from reference import guard, known, machine, timecode, times
+from reference import guard, machine, timecode, times
 from reference.known import NEAR, Recorded
 from reference.law import WIDEST, Law, Moment
 from reference.reading import Move

@@ -6,9 +6,9 @@ It is known of the recording as it is read (`reading`). So a moment that was mov
 from bisect import bisect_left, bisect_right
 from fractions import Fraction
 from functools import cached_property, lru_cache
-from typing import Iterator, List, NamedTuple, Optional, Sequence, Tuple
+from typing import List, NamedTuple, Optional, Tuple
 
-from reference import explained, explanation, machine, reading, timecode, timed_lines, times
+from reference import explained, explanation, machine, reading, timed_lines, times
 
 SURE = explanation.NOTHING  # the margin of what is sure: less than a rise costs that is no element, so that noise leaves the rest sure
 NEAR = Fraction(1, explained.OFF)  # of an interval: no time that is known is off by more
@@ -39,8 +39,8 @@ class Recorded:
 
     @cached_property
     def sure(self) -> explained.Times:
-        """What is sure, if it is asked for. An explanation that ends earlier does not count: time goes on, and the fewer pulses come after a
-        place, the cheaper it is that they are none."""
+        """What is sure, if it is asked for. An explanation that ends earlier does not count: time goes on, and the fewer pulses come after
+        a place, the cheaper it is that they are none."""
         return explained.Times(self.read, self.kind, self.expression, SURE, False)
 
     # ---- times

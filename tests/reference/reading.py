@@ -1,7 +1,7 @@
 """How a recording is read before anything is known of it: where a script moves its pulses, in which stretches the wire is upside down, and
 by how much the threshold makes each pulse longer. The last two are functions of the recording alone, as its clock is.
 """
-from typing import List, NamedTuple, Sequence, Tuple
+from typing import List, NamedTuple, Sequence
 
 from reference import timecode
 from reference.explanation import JUMP, OFF_LINE, Pulse
