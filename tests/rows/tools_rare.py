@@ -13,7 +13,7 @@ from built import TOP
 from cases import case
 from irig_tools import analysis, damage, edits, mend, readings, search, spans, unread
 from irig_tools.check import Check, Moved
-from irig_tools.editor import Editor, Listing
+from irig_tools.editor import Listing
 from irig_tools.layout import Layout
 from irig_tools.parity import rule_of
 from irig_tools.script import Repair
@@ -307,26 +307,6 @@ def of_rules():
         yield from rows()
 
 
-# frames that are fine and wrong
-
-
-def of_neighbours():
-    """Of three wrong frames next to each other two are fine: the one between them is mended once they are."""
-    for name, options in (("", []), (", --save", ["--save"])):
-        whole = signal(12, expression=2)
-        damaged = flipped(signal(12, expression=2), 511, 623, 732)  # element 23: hour 1 and ten more
-        with tempfile.TemporaryDirectory() as folder:
-            path, mended = (os.path.join(folder, each) for each in ("damaged.vcd", "mended.vcd"))
-            with open(path, "w", encoding="utf-8") as file:
-                file.write(damages.dump(damaged, 12000000))
-            command = [os.path.join(TOP, "tools", "irig_mend"), "--format=B", "--expression=2", *options, "--apply", mended, path]
-            told = subprocess.run(command, capture_output=True, text=True, check=False)
-            after = Editor(["--format=B", "--expression=2", mended]).ask([])
-        found = "3 places found, 3 repaired, 0 undecided, 0 left, 0 steps that stay; 10 frames sound before, 11 after"
-        yield same("what is said" + name, (told.returncode, told.stdout.partition(": ")[2]), (0, found + "\n"))
-        yield same("the pulses" + name, [list(each) for each in zip(after.rises, after.falls)] == whole, True)
-
-
 # no frame is fine
 
 
@@ -379,4 +359,4 @@ def cases():
         ("recorders that stopped", of_recorders_that_stopped), ("bases", of_bases),
         ("leap seconds", of_leap_seconds),
         ("steady control functions", of_steady_control), ("control functions with a rule", of_rules),
-        ("frames that are fine and wrong", of_neighbours), ("no frame is fine", of_unread))]
+        ("no frame is fine", of_unread))]

@@ -467,24 +467,9 @@ def of_a_new_begin():
     yield same("a generator that begins again", ("the clock was set" in said, "elements are missing" in said), (True, False))
 
 
-def of_wrong_neighbours():
-    """Three neighbours, each with another wrong element."""
-    def wrong(draft):
-        first = 12
-        for number, element in ((first, 11), (first + 1, 23), (first + 2, 32)):
-            draft.flips[draft.time + number * draft.format.frame] = {element}
-
-    def at_noon(draft):
-        draft.time = 60 * DAY + 12 * HOUR
-
-    bad, good = (Made(75, "B", "2", 24, several(still, at_noon, each)) for each in (wrong, nothing))
-    found = bad.mended()
-    yield same("three neighbours that are fine and wrong", (found.status, good.unlike(found)), (0, (0, 0)))
-
-
 def of_rarer():
     """Noise in little time, the end of a century, a control function that is always one, a clock that was set."""
-    for rows in (of_noise, of_a_century, of_always_one, of_a_new_begin, of_wrong_neighbours):
+    for rows in (of_noise, of_a_century, of_always_one, of_a_new_begin):
         yield from rows()
 
 

@@ -5,10 +5,7 @@ the words.
 """
 import json
 import random
-import subprocess
-import tempfile
 
-from built import BUILT
 from cases import case
 from irig_tools import mend_program, others
 from irig_tools.analysis import examine
@@ -19,7 +16,6 @@ from rows.in_process import run
 from rows.tools_apply import in_folder, text_of
 from rows.tools_parts import same
 from rows.tools_rare import MIDDAY, flipped, listed, signal
-from rows.tools_sent import taking
 
 in_process.MAINS.update(irig_mend=mend_program.main)
 
@@ -606,91 +602,6 @@ def of_parity():
         yield from in_folder(lambda holds=holds: list(holds()), rec=dump(rec), other=dump(other))
 
 
-def of_classes():
-    """The second frame that is fine shows a wrong day. Once that is mended, the frames before the first one are, too."""
-    lost = LOST - 1000
-    broken = without(flipped(code(), 430), 50 + 14, 100 + 20, 100 + lost, 200 + 30)
-
-    def holds():
-        status, printed, _ = mend("--with", "other.vcd", "--apply", "new.vcd", "--out", "new.ed")
-        yield same("--apply", (status, " 0 left" in printed[0], " refused" in printed[0]), (0, True, False))
-        yield same("what is written", edges(text_of("new.vcd")) == edges(dump(code())), True)
-        edits = [line for line in text_of("new.ed").splitlines() if line[0] != "#"]
-        yield same("the classes come first", " force " in edits[0] and len(edits) > 3, True)
-        words, script = "--expression=4 --out obeyed.vcd rec.vcd".split(), text_of("new.ed") + "write\n"
-        done = subprocess.run([BUILT, *words], input=script, capture_output=True, text=True, check=False)
-        yield same("irig_ed obeys the script", (done.returncode, text_of("obeyed.vcd") == text_of("new.vcd")), (0, True))
-        yield same("without another recording", " refused" in mend("--apply", "alone.vcd")[1][0], True)
-
-    return in_folder(lambda: list(holds()), rec=dump(broken), other=dump(slow(code())))
-
-
-def noisy(pulses, first, last, touching=False):
-    """Noise instead of these pulses: each place has two, neither of which rises when one is due; the second can last until the next is."""
-    noise = [[10000 * at + begin, 10000 * at + end] for at in range(first, last + 1)
-             for begin, end in ((1500 + 160 * (at % 7), 3500), (5600 - 110 * (at % 5), 10000 if touching and at < last else 8000))]
-    return [*pulses[:first], *noise, *pulses[last + 1:]]
-
-
-def between(text, begin, end):
-    return [edge for edge in edges(text) if begin <= edge < end]
-
-
-def is_within(at, stretches):
-    return any(begin <= at < end for begin, end in stretches)
-
-
-def of_noises():
-    """Pulses with noise, the stretches that are left, and those that are guesses."""
-    holed, two = noisy(code(), 1062, 1065), noisy(noisy(code(), 1262, 1265), 1062, 1065)
-    gone = next(1000 + each for each in range(70, 78) if class_at(code(), 900 + each) != class_at(code(), 1100 + each))
-    of_frames = [(begin, begin + 190000) for begin in (9600000, 10600000, 11600000, 12600000)]  # control functions of a hole are guesses
-    noise, another = (10620000, 10660000), (12620000, 12660000)
-    return (
-        ("noise from a frame into the next one", noisy(code(), 995, 1065), [(10600000, 10660000)], []),
-        ("noise, and elements of the time of its frame that are lost", without(holed, *range(1005, 1036)), [noise], []),
-        ("noise that lasts until the next element, which is lost", without(
-            noisy(code(), gone, gone + 1, True), *range(1005, 1036), gone + 2, gone + 3), [(10000 * gone, 10000 * gone + 20000)], []),
-        ("noise, and a control function of its frame that is lost", [*holed[:gone + 4], *holed[gone + 5:]], [noise],
-         [(10000 * gone, 10000 * gone + 10000)]),
-        ("noise in a hole of three frames", [*holed[:950], *holed[1062:1070], *code()[1150:]], [noise], of_frames[:2]),
-        ("noise twice in a hole of three frames", [*two[:950], *two[1062:1070], *two[1266:1274], *code()[1280:]], [noise, another],
-         of_frames),
-    )
-
-
-def left_alone(name, left, guesses):
-    """Whether nothing but these stretches differs from the code, each of them does, and a line says why."""
-    status, printed, _ = mend("--apply", "new.vcd")
-    written, sure = text_of("new.vcd"), dump(code())
-    yield same(name, (status, " %d after" % (29 - len(left)) in printed[0], " refused" in printed[0]), (1, True, False))
-    unlike = sorted(set(edges(written)) ^ set(edges(sure)))
-    yield same(name + ": what is repaired", [at for at in unlike if not is_within(at, left + guesses)], [])
-    for each in left:
-        yield same(name + ": what is left", set(between(written, *each)) >= set(between(sure, *each)), False)
-    said = " would have control functions that are not supported, so they are left out: "
-    yield same(name + ": what is said", [said in each for each in printed if ": undecided: " in each], [True] * len(left))
-
-
-def of_one_pulse():
-    """Noise, and one pulse of the time of its frame that is lost."""
-    status, printed, _ = mend("--apply", "new.vcd")
-    found = status, " 1 line refused" in printed[0], between(text_of("new.vcd"), 10050000, 10060000)
-    yield same("noise, and one pulse of the time of its frame: no sample loses its time by it", found, (1, False, [10050000, 10052000]))
-    with tempfile.TemporaryDirectory() as folder, taking(folder, 10050000, 30000):
-        status, printed, _ = mend("--apply", "less.vcd")
-    found = status, " 1 line refused" in printed[0], between(text_of("less.vcd"), 10050000, 10060000)
-    yield same("the same, if fewer samples had a time", found, (1, True, []))
-
-
-def of_parts():
-    """Of noise that leaves control functions which nothing supports, those alone are left: not what else is repaired in their frame, nor
-    a frame next to it."""
-    for name, pulses, *stretches in of_noises():
-        yield from in_folder(lambda name=name, stretches=stretches: list(left_alone(name, *stretches)), rec=dump(pulses))
-    yield from in_folder(lambda: list(of_one_pulse()), rec=dump(without(noisy(code(), 1062, 1065), 1005)))
-
-
 def of_mended():
     """A frame that reads well gets a control function that another recording and the frames next to it have."""
     def seldom():
@@ -852,5 +763,5 @@ def of_refused():
 
 def cases(_top):
     parts = (of_lost, of_recorded, of_explained, of_votes, of_trusted, of_most, of_other_code, of_contrary, of_rules, of_few, of_beside,
-             of_width, of_meeting, of_inserted, of_apply, of_guarded, of_parity, of_classes, of_parts, of_mended, of_fine, of_refused)
+             of_width, of_meeting, of_inserted, of_apply, of_guarded, of_parity, of_mended, of_fine, of_refused)
     return [case("mend: with: " + part.__name__[3:].replace("_", " "), lambda part=part: list(part())) for part in parts]

@@ -1,14 +1,13 @@
 """A proposed script that was run on its track, and what was seen before and after it."""
 from __future__ import annotations
 
-import os
 from dataclasses import dataclass, replace
 from functools import cached_property
-from typing import Callable, List, Sequence, Set, Tuple, Union
+from typing import Callable, List, Sequence, Tuple, Union
 
 from . import limits
 from .analysis import START
-from .apply import Counts, FrameCount, Refused, beside, find_guard, frames_of, guesses_in, most_off, run_script, turning
+from .apply import Counts, FrameCount, Refused, frames_of, guesses_in, most_off, run_script
 from .became import became_of
 from .believed import NOTHING_BEARS, without_time
 from .damage import Damage, Seen, look
@@ -16,11 +15,9 @@ from .editor import Editor, Listing, Progress
 from .kinds import DamageKind
 from .left import without_line
 from .opening import Opened
-from .parted import parted
 from .recounted import in_repaired
 from .script import Repair
-from .second_try import after_classes, classes_kept, once_more
-from .taken_times import takers, timed
+from .taken_times import takers
 from .units import ELEMENTS
 
 TAKEN = "the samples at %d and next to it would have no time, or another one"
@@ -38,10 +35,6 @@ class How:
     save: bool = False
     others: Sequence[str] = ()  # dumps of other recordings
     owns: Callable[[int], bool] = lambda time: True  # what counts is at such times
-
-    def command(self, track: Opened) -> Sequence[str]:
-        """irig_guard, for what it has written of this track."""
-        return [find_guard(), *["--moved"] * self.move, *beside(self.others), *track.code, *["--save"] * self.save]
 
 
 @dataclass
@@ -110,51 +103,22 @@ def _without_moves_in_fine(script: Sequence[Repair]) -> List[Repair]:
 def _run_without_takers(track: Opened, editor: Editor, script: List[Repair], how: How, repaired: str, listing: Listing) -> Refused:
     """Runs a script until no repair of it takes the time of a sample: one that does is left out, with a remark in its place. If the rest
     moves, samples have other times then."""
-    left: Set[int] = set()
     for number in range(limits.MOST_CHECKS):
-        refused, tried = _run_in_parts(track, editor, script, how, repaired, listing, left)
+        refused = _run_once(track, script, how, repaired, listing.kind, editor)
         taking = [] if how.move else takers(track, listing, script, refused, repaired, number >= limits.MOST_NEAREST)
         if not taking:
             return refused
-        left.update(repair.at for repair, _ in taking)
         remarks = {repair.at: repair.left_out(TAKEN % moment) for repair, moment in taking}
-        without = [remarks.pop(each.at, each) if each.edits else each for each in tried]
+        without = [remarks.pop(each.at, each) if each.edits else each for each in script]
         script[:] = [*remarks.values(), *without]
-    return _run_in_parts(track, editor, script, how, repaired, listing, left)[0]
+    return _run_once(track, script, how, repaired, listing.kind, editor)
 
 
-def _run_in_parts(track: Opened, editor: Editor, script: List[Repair], how: How, repaired: str, listing: Listing,
-                  left: Set[int]) -> Tuple[Refused, List[Repair]]:
-    """Runs a script; and again without what is unsure, if fewer lines are refused then, and no fewer moments have a time. The script gets
-    the repairs of the run that counts; also those that it began with."""
-    first, parts = list(script), repaired + ".parts"
-    refused = _run_once(track, editor, script, how, repaired, listing.kind, left)
-    tried, again = first, refused
-    for _ in range(0 if how.move else limits.MOST_PARTED):
-        before, tried = tried, parted(tried, again, listing.kind)
-        if tried == before:
-            break
-        last = list(tried)
-        again = _run_once(track, editor, last, how, parts, listing.kind, left)
-        if again.lines < refused.lines and timed(track, listing, first, repaired) <= timed(track, listing, first, parts):
-            os.replace(parts, repaired)
-            script[:], first, refused = last, tried, again
-    return refused, first
-
-
-def _run_once(track: Opened, editor: Editor, script: List[Repair], how: How, repaired: str, kind: str, left: Set[int]) -> Refused:
-    """Runs a script. What is tried again is not at one of these times."""
+def _run_once(track: Opened, script: List[Repair], how: How, repaired: str, kind: str, editor: Editor) -> Refused:
+    """Runs a script; without moves if one of them is dropped, as what comes after it in the script counts on it."""
     refused = run_script(track, script, how.save, repaired, how.move, kind, how.others)
-    if refused.drops_moves(script):  # what comes after them in the script counts on them
-        script[:] = _without_moves_in_fine(how.propose(editor, False))
-        again = run_script(track, script, how.save, repaired, False, kind, how.others)
-        refused = replace(again, reasons=[*refused.reasons, *again.reasons])
-    classes = [] if how.move or not how.others or turning(script) else classes_kept(script, refused)
-
-    def again_for(path: str) -> List[Repair]:
-        found = how.propose(Editor([*track.code, path]), how.move)
-        return [each for each in _without_moves_in_fine(found) if each.at not in left]
-
-    refused = once_more(script, refused, lambda: again_for(repaired), list(how.command(track)), repaired, kind)
-    return after_classes(script, refused, classes, lambda first, out: run_script(track, first, how.save, out, False, kind, how.others),
-                         again_for, list(how.command(track)), repaired, kind)
+    if not refused.drops_moves(script):
+        return refused
+    script[:] = _without_moves_in_fine(how.propose(editor, False))
+    again = run_script(track, script, how.save, repaired, False, kind, how.others)
+    return replace(again, reasons=[*refused.reasons, *again.reasons])

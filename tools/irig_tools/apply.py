@@ -87,10 +87,6 @@ class Refused:
         """Whether a repair is dropped: its lines are comments."""
         return bool(repair.edits) and self.dropped.issuperset(repair.edits)
 
-    def filled_with(self, after: Refused) -> Optional[int]:
-        """How many frames of both runs have such control functions; the second one is on what the first wrote."""
-        return None if self.filled is None else self.filled + (after.filled or 0)
-
     @property
     def is_nothing(self) -> bool:
         """Whether irig_guard kept all."""

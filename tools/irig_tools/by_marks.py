@@ -25,15 +25,14 @@ def changes_numbers(repair: Repair) -> bool:
 
 
 def by_mark(repair: Repair, rises: Sequence[int]) -> Repair:
-    """The repair with a mark at the pulse before its first one, and so its parts; as it is if it has no numbers of pulses, or if no pulse
-    is before them. `rises` are those of the track that its numbers are of."""
+    """The repair with a mark at the pulse before its first one; as it is if it has no numbers of pulses, or if no pulse is before them.
+    `rises` are those of the track that its numbers are of."""
     numbers = [int(number) for line in [*repair.edits, *repair.instead] for found in [ADDRESSED.match(line)] if found
                for number in found.groups() if number]
     base = min(numbers, default=1) - 1
     if not base or any(line.startswith("mark ") for line in repair.edits):
         return repair
-    return replace(repair, edits=_from_mark(repair.edits, base, rises), instead=_from_mark(repair.instead, base, rises),
-                   parts=[by_mark(part, rises) for part in repair.parts])
+    return replace(repair, edits=_from_mark(repair.edits, base, rises), instead=_from_mark(repair.instead, base, rises))
 
 
 def _from_mark(lines: Sequence[str], base: int, rises: Sequence[int]) -> List[str]:

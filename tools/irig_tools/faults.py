@@ -102,12 +102,6 @@ class Faults:
         found.wanted = {place: self.wanted[place] for place in kept if place not in places}
         return found
 
-    def only(self, places: Container[PlaceNumber]) -> Faults:
-        """The same, as if nothing were wrong but at these places."""
-        found = copy.copy(self)
-        found.wanted = {place: target for place, target in self.wanted.items() if place in places}
-        return found
-
     def _doubted(self) -> Set[FrameNumber]:
         """The frames at an end of the recording, before the first sound one or after the last, if of one of them another recording has
         too much otherwise: their time is counted from the sound ones, and a clock that was set there looks just so."""

@@ -41,4 +41,4 @@ def one_of(repairs: Sequence[Repair]) -> Repair:
     guesses = [guess for each in repairs for guess in each.guesses]
     return Repair(begin, comments, edits, until=end, moves=moves, kind=repairs[0].kind, guesses=guesses,
                   concern=of_all([each.concern for each in reversed(repairs)]), off=max(each.off for each in repairs),
-                  is_unsure=any(each.is_unsure for each in repairs), ahead=min(repairs, key=lambda each: each.at).ahead)
+                  ahead=min(repairs, key=lambda each: each.at).ahead)

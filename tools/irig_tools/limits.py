@@ -193,7 +193,6 @@ MOST_CHECKS = 5  # after that many no repair is left: the end of a search
 # samples that lose their time (taken_times)
 REACH_OF_A_REPAIR = 4  # frames: a frame bears out the two before it and the two after it, and pulses are counted into the next one
 MOST_NEAREST = 2  # runs of irig_guard after which all repairs within that reach are left out, and not just the nearest
-MOST_PARTED = 3  # runs of irig_guard without what nothing supports: one for each frame of a repair that shows only then
 
 # frames before and after the script (check)
 MOVED = 0.2  # intervals: a marker that is moved by less is the same: twice what irig_ed tolerates

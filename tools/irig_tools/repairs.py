@@ -3,7 +3,7 @@ from __future__ import annotations
 
 from dataclasses import replace
 from math import ceil
-from typing import Dict, List, Optional, Sequence, Tuple
+from typing import Dict, List, Sequence, Tuple
 
 from . import limits
 from .chance import misread
@@ -16,7 +16,6 @@ from .kinds import DamageKind
 from .layout import NAMES, SHARE
 from .script import Repair
 from .units import ELEMENTS, Microseconds, PlaceNumber, frame_of, plus, through
-from .unsure import unsure_parts
 from .wholes import as_elsewhere, late_zones, left_rest, lost_frames, shift
 
 OFF_HERE = "the clock wanders: what is filled in here can be %.3g milliseconds off"
@@ -31,7 +30,7 @@ def repairs(seen: Faults) -> Tuple[List[Repair], List[Remark]]:
     found = [shift(faults, zone) for zone in moved] + whole + misread(single) + items(single)
     groups = grouped(sorted(found, key=lambda item: -item.low),
                      lambda before, item: before.low - item.high > 1 or _is_otherwise(before, item))
-    return [_in_parts(_repair(single, group), faults, group) for group in groups], [left_rest(seen, zone) for zone in left]
+    return [_repair(single, group) for group in groups], [left_rest(seen, zone) for zone in left]
 
 
 def _is_otherwise(one: Item, other: Item) -> bool:
@@ -39,29 +38,18 @@ def _is_otherwise(one: Item, other: Item) -> bool:
     return (one.is_in_fine, one.is_trusted) != (other.is_in_fine, other.is_trusted)
 
 
-def _in_parts(whole: Repair, faults: Faults, group: List[Item]) -> Repair:
-    """The repair of a group, with its parts if it has several. They are the other way, as the editor has not tried them."""
-    parts, is_in_fine = unsure_parts(faults, group), group[0].is_in_fine
-    if len(parts) == 1:
-        return replace(whole, is_unsure=parts[0][1], is_in_fine=is_in_fine, is_trusted=group[0].is_trusted)
-    several = [replace(_repair(faults, items, whole.at).another_way(), is_unsure=is_unsure) for items, is_unsure in parts]
-    return replace(whole, is_in_fine=is_in_fine, parts=several)
-
-
-def _repair(faults: Faults, group: List[Item], hole: Optional[Microseconds] = None) -> Repair:
-    """The repair of a group, or of a part of one that begins at `hole`."""
+def _repair(faults: Faults, group: List[Item]) -> Repair:
     track = faults.track
     first, last = (track.within(PlaceNumber(int(place + 0.5))) for place in (group[-1].low, group[0].high))
     at, until = track.rise_at(first), track.rise_at(last)
-    hole = at if hole is None else hole
     concern = faults.concern(first, last)._replace(step=next((item.step for item in group if item.step), None))
     off = _can_be_off(faults, group)
-    comments = _comments(faults, group, hole) + ([OFF_HERE % (off / 1000)] if off else [])
+    comments = _comments(faults, group, at) + ([OFF_HERE % (off / 1000)] if off else [])
     edits, instead = [edit for item in group for edit in item.edits], _written_again(faults, group)
     if all(item.single for item in group) and 0 < len(instead) < len(edits):
         edits, instead = instead, []
     found = repair_of(_kind_of(group), at, comments, edits, until, instead=instead, concern=concern)
-    return replace(found, off=off, guesses=_guesses(faults, group, hole))
+    return replace(found, off=off, guesses=_guesses(faults, group, at), is_in_fine=group[0].is_in_fine, is_trusted=group[0].is_trusted)
 
 
 def _comments(faults: Faults, group: List[Item], hole: Microseconds) -> List[str]:

@@ -35,8 +35,6 @@ class Repair:
     guesses: List[Guess] = field(default_factory=list)  # what it fills in though nothing decides that
     concern: Concern = NOTHING
     off: int = 0  # by how many microseconds what it fills in can be off, if the clock wanders and that is worth a word
-    parts: List[Repair] = field(default_factory=list)  # the same edits in several repairs, which irig_guard can keep without each other
-    is_unsure: bool = False  # nothing supports one of its control functions
     is_in_fine: bool = False  # it moves rises that are off, of frames that are fine, and does nothing else
     is_trusted: bool = False  # it changes classes of sound frames, as most recordings have them
     ahead: int = 0  # pulses that begin before it in the track in which its own are counted
@@ -57,14 +55,10 @@ class Repair:
     def refused(self) -> Repair:
         """The editor refuses one of the edits: the other way, or if there is none a remark."""
         if self.instead:
-            return replace(self.another_way(), moves=[])
+            return replace(self, edits=self.instead, instead=[], moves=[])
         said = "the editor refuses these lines, %s: %s" % (LEFT_OUT, _whole_lines(self.edits))
         return Repair(self.at, self.comments + [said], kind=self.kind, undecided=guess_lines(self.guesses), concern=self.concern,
                       ahead=self.ahead)
-
-    def another_way(self) -> Repair:
-        """The other way, if there is one."""
-        return replace(self, edits=self.instead, instead=[]) if self.instead else self
 
     def left_out(self, seen: str) -> Repair:
         """A remark in its place: what is seen with its lines."""
@@ -74,8 +68,6 @@ class Repair:
     def count_in(self, rises: Sequence[Microseconds]) -> None:
         """Its pulses are counted in a track with these rises."""
         self.ahead = bisect_left(rises, self.at)
-        for part in self.parts:
-            part.count_in(rises)
 
 
 def _whole_lines(lines: Sequence[str]) -> str:

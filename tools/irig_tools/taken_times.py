@@ -46,13 +46,6 @@ def takers(track: Opened, listing: Listing, script: Sequence[Repair], refused: R
     return [(kept[number], found[number]) for number in sorted(found)]
 
 
-def timed(track: Opened, listing: Listing, script: Sequence[Repair], repaired: str) -> int:
-    """How many moments of the track of this listing, near these repairs, have a time in a repaired one."""
-    interval = INTERVAL[listing.kind]
-    moments = list(_moments(listing.rises, interval, _stretches_near([each for each in script if each.edits], interval)))
-    return sum(time != UNTIMED for time in _times(track.code, repaired, moments)) if moments else 0
-
-
 def _stretches_near(script: Sequence[Repair], interval: int) -> List[Tuple[int, int]]:
     """The stretches in which a repair can give a time, or take one."""
     reach = limits.REACH_OF_A_REPAIR * ELEMENTS * interval
