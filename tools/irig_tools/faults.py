@@ -162,13 +162,19 @@ class Faults:
         in_one = not binary.isdisjoint(told) and (binary.isdisjoint(against) or binary.issuperset(against))
         most = limits.MOST_CONTRARY if in_one or self.is_between(number) else limits.CONTRARY_AT_END
         is_clear = len(against) > (0 if twice_told or self.times.turns_at(number) else most)
-        if not is_clear and not self._can_be_another_time(number, told, against):
+        many = len(against) + self._ones_at_end(number, text, expected)
+        if not is_clear and many <= most and not self._can_be_another_time(number, told, against):
             return False
         seen = "%s: %s contradict%s the time that the frames next to it lead to" % (
-            self.times.name(number), counted(len(against), "element"), "" if against[1:] else "s")
+            self.times.name(number), counted(many, "element"), "" if many > 1 else "s")
         first = max(self.track.first, place_in(number))
         self.remark(first, seen, LEFT_FRAME)
         return True
+
+    def _ones_at_end(self, number: FrameNumber, text: str, expected: str) -> int:
+        """How many ones a frame at an end has where its expression has zeros: they are of other elements if some were lost next to it."""
+        ones = [each for each in self.layout.unused if (text[each], expected[each]) == ("1", "0")]
+        return 0 if self.is_between(number) else len(ones)
 
     def _can_be_another_time(self, number: FrameNumber, told: Sequence[int], against: Sequence[int]) -> bool:
         """Whether a frame at an end shows another time of its day, as after a loss of whole frames, or if the clock was set there: what
