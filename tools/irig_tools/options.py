@@ -101,10 +101,6 @@ class Given:
         value: Optional[int] = self.values.get(option.name)
         return value
 
-    def of_editor(self) -> List[str]:
-        """The options for the editor, as words."""
-        return ["%s=%s" % (option.name, self.text(option)) for option in EDITOR if self.has(option)]
-
 
 @dataclass(frozen=True)
 class Command:

@@ -17,6 +17,7 @@ from .temporary import temporary_script
 from .units import ELEMENTS
 
 UNTIMED = "-"
+KEEPS_TIMES = "--apply looks by it whether each sample keeps its time"
 SECONDS_OF = (86400, 3600, 60, 1)  # of a day, an hour, a minute and a second
 YEARS = 0, 365, 366  # days: no moment near a repair is another one of these by a repair
 
@@ -36,7 +37,7 @@ def takers(track: Opened, listing: Listing, script: Sequence[Repair], refused: R
     moments = list(_moments(listing.rises, interval, _stretches_near(kept, interval)))
     if not moments:
         return []
-    before, after = _times(options, path, moments), _times(track.code, repaired, moments)
+    before, after = (times_of(words, of, moments, KEEPS_TIMES) for words, of in ((options, path), (track.code, repaired)))
     lost = [moment for moment, one, other in zip(moments, before, after) if _is_taken(one, other, interval)]
     most = reach if widely else 0
     found: Dict[int, int] = {}
@@ -71,9 +72,9 @@ def _moments(rises: Sequence[int], interval: int, stretches: Sequence[Tuple[int,
                 yield (rise + after) // 2
 
 
-def _times(options: Sequence[str], path: str, moments: Sequence[int]) -> List[str]:
+def times_of(options: Sequence[str], path: str, moments: Sequence[int], need: str) -> List[str]:
     """What irig_time gives these moments of a track."""
-    program = find_beside("irig_time", "--apply looks by it whether each sample keeps its time")
+    program = find_beside("irig_time", need)
     with temporary_script("".join("%d\n" % moment for moment in moments)) as lines:
         done = subprocess.run([program, *options, path], stdin=lines, capture_output=True, check=False)
     found = [line.partition(b"\t")[0].decode("ascii", "replace") for line in done.stdout.splitlines()]

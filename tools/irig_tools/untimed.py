@@ -1,18 +1,18 @@
 """Which stretches of a repaired recording give no sample a time, by irig_time: for how long, and why."""
 from __future__ import annotations
 
-import subprocess
 from itertools import chain
 from typing import Iterator, List, NamedTuple, Sequence, Tuple
 
-from .editor import CUT_OFF, Listing, Problem, find_beside
+from .editor import Listing
 from .layout import INTERVAL
-from .temporary import temporary_script
+from .taken_times import times_of
 from .texts import counted, seconds
 
 MOST_NAMED_OF_THEM = 20
 TIMED = "irig_time gives %s of %s their time of day, %.2f %%"
 WITHOUT_TIME = "without a time: %s"
+SHOWS_TIMES = "--page shows by it which samples have a time"
 
 
 class Untimed(NamedTuple):
@@ -28,7 +28,7 @@ def said_of_times(code: Sequence[str], path: str, listing: Listing) -> List[str]
     pieces = [piece for piece in _pieces(listing) if piece[0] < piece[1]]
     if not pieces:
         return []
-    words = _words_of_times(code, path, [(begin + end) // 2 for begin, end in pieces])
+    words = times_of(["--why", *code], path, [(begin + end) // 2 for begin, end in pieces], SHOWS_TIMES)
     found = _stretches_without(pieces, words)
     lost = sum(each.end - each.begin for each in found)
     said = [TIMED % (seconds(listing.length - lost), seconds(listing.length), 100 * (1 - lost / listing.length))]
@@ -46,17 +46,6 @@ def _pieces(listing: Listing) -> Iterator[Tuple[int, int]]:
         last = after if 2 * (after - rise) < 3 * interval else rise + interval
         yield rise, last
     yield last, listing.length
-
-
-def _words_of_times(code: Sequence[str], path: str, moments: Sequence[int]) -> List[str]:
-    """Of each moment its time, or why it has none."""
-    program = find_beside("irig_time", "--page shows by it which samples have a time")
-    with temporary_script("".join("%d\n" % moment for moment in moments)) as lines:
-        done = subprocess.run([program, "--why", *code, path], stdin=lines, capture_output=True, check=False)
-    found = [line.partition(b"\t")[0].decode("ascii", "replace") for line in done.stdout.splitlines()]
-    if done.returncode not in (0, 1) or len(found) != len(moments):
-        raise Problem(done.stderr.decode(errors="replace").strip() or CUT_OFF)
-    return found
 
 
 def _stretches_without(pieces: Sequence[Tuple[int, int]], words: Sequence[str]) -> List[Untimed]:
