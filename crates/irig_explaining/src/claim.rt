@@ -15,9 +15,9 @@ pub enum Kind {
 #[derive(Clone, Copy)]
 pub struct Claim {
     /// The number of the rise in the recording, from 0.
-    pub rise: usize,
+    pub rise: u32,
     /// The number of the element, from 0. What else the caller wants to part can be in it.
-    pub element: usize,
+    pub element: u32,
     /// The kind of the step from the claim before.
     pub kind: Kind,
 }

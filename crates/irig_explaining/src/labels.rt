@@ -40,7 +40,7 @@ impl<'a> Places for Prices<'a> {
         if matches!(to.kind, Kind::Jump) {
             return size * size;
         }
-        let before = self.label(from.rise, from.element);
-        before * size + self.label(to.rise, to.element)
+        let before = self.label(from.rise as usize, from.element as usize);
+        before * size + self.label(to.rise as usize, to.element as usize)
     }
 }

@@ -73,6 +73,7 @@ fn step_lows<C: Costs>(
 )
     requires small { All (λ n. n.cost < 2 ^ 63) nodes.now }
     requires opens { All (IsOpen (C.price costs.now) rises nodes.now rise) opens.now }
+    requires rise { rise < 2 ^ 32 }
     requires few { length lows.old.items ≤ 2 ^ 32 }
     ensures { AreStepped (C.price costs.now) nodes.now opens.now rise lows.old.items
         lows.new.items }
@@ -87,6 +88,7 @@ fn step_lows<C: Costs>(
 /// The same for the steps from one node.
 fn step_from<C: Costs>(costs: &C, node: Node, one: Open, rise: usize, lows: &mut Vec<u64>)
     requires small { node.cost < 2 ^ 63 }
+    requires rise { rise < 2 ^ 32 }
     requires fits { IsReach one.reach }
     requires least { (f : ℕ) (k : Kind) → one.least ≤ going (C.price costs.now) node rise f k }
     requires few { length lows.old.items ≤ 2 ^ 32 }
@@ -110,6 +112,8 @@ fn step_to<C: Costs>(
     lows: &mut Vec<u64>,
 )
     requires small { node.cost < 2 ^ 63 }
+    requires rise { rise < 2 ^ 32 }
+    requires few { length lows.old.items ≤ 2 ^ 32 }
     requires least { (f : ℕ) (k : Kind) → least ≤ going (C.price costs.now) node rise f k }
     ensures lower { IsLower (C.price costs.now) node rise lows.old.items lows.new.items }
     ensures under { element < length lows.old.items
@@ -124,6 +128,8 @@ fn step_to<C: Costs>(
 /// The least of a cost, and those of steps from a node to a claim.
 fn lower<C: Costs>(costs: &C, node: Node, least: u64, rise: usize, element: usize, low: u64) -> u64
     requires small { node.cost < 2 ^ 63 }
+    requires rise { rise < 2 ^ 32 }
+    requires element { element < 2 ^ 32 }
     requires least { (f : ℕ) (k : Kind) → least ≤ going (C.price costs.now) node rise f k }
     ensures kept { result ≤ low }
     ensures under { IsUnder (C.price costs.now) node rise element result }
@@ -146,7 +152,9 @@ fn lower_by<C: Costs>(
     kind: Kind,
     low: u64,
 ) -> u64
-    requires { node.cost < 2 ^ 63 }
+    requires small { node.cost < 2 ^ 63 }
+    requires rise { rise < 2 ^ 32 }
+    requires element { element < 2 ^ 32 }
     ensures kept { result ≤ low }
     ensures least { result ≤ going (C.price costs.now) node rise element kind }
     ensures origin { (result ≡ low) ⊎ (result ≡ going (C.price costs.now) node rise element kind) }
@@ -155,8 +163,8 @@ fn lower_by<C: Costs>(
         return low;
     }
     let to = Claim {
-        rise,
-        element,
+        rise: rise as u32,
+        element: element as u32,
         kind,
     };
     low.min(come(costs, node, 0, to, kind).cost)

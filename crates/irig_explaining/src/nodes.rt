@@ -30,8 +30,8 @@ impl Node {
             ≡ record { rise = self.now.rise; element = self.now.element; kind = kind } }
     {
         Claim {
-            rise: self.rise as usize,
-            element: self.element as usize,
+            rise: self.rise,
+            element: self.element,
             kind,
         }
     }

@@ -56,8 +56,8 @@ impl<'a, C: Costs + Places> Tables<'a, C> {
         let mut least = best;
         for element in 0..self.rises.states {
             let to = Claim {
-                rise,
-                element: element as usize,
+                rise: rise as u32,
+                element,
                 kind: Kind::Next,
             };
             least = self.with_steps_to(to, asked, least);
@@ -86,7 +86,8 @@ impl<'a, C: Costs + Places> Tables<'a, C> {
             return best;
         }
         let mut least = best;
-        for rise in to.rise.saturating_sub(self.rises.window)..asked.interval + 1 {
+        let first = (to.rise as usize).saturating_sub(self.rises.window);
+        for rise in first..asked.interval + 1 {
             least = self.with_steps_from_rise(rise, to, rest, asked, least);
         }
         least
@@ -129,8 +130,8 @@ impl<'a, C: Costs + Places> Tables<'a, C> {
         let mut least = best;
         for element in 0..self.rises.states {
             let from = Claim {
-                rise,
-                element: element as usize,
+                rise: rise as u32,
+                element,
                 kind: Kind::Next,
             };
             let spent = self.cost_before(near, from) + rest;
@@ -169,12 +170,12 @@ impl<'a, C: Costs + Places> Tables<'a, C> {
             count: self.rises.count,
         };
         let to = Claim {
-            rise: self.rises.count - 1 - from.rise,
+            rise: (self.rises.count - 1 - from.rise as usize) as u32,
             element: from.element,
             kind: Kind::Next,
         };
         let after = self.after.as_slice();
-        let near = nodes_near(self.rises.window, after, to.rise);
+        let near = nodes_near(self.rises.window, after, to.rise as usize);
         cost_of(&turned, self.rises, after, near, to)
     }
 }

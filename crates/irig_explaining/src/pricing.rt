@@ -53,7 +53,7 @@ impl<'a> Costs for Prices<'a> {
     ghost to_class = { λ p f. 0 };
 
     fn price(&self, from: Claim, to: Claim) -> u32 {
-        if to.rise <= from.rise || self.pulses.len() <= to.rise {
+        if to.rise <= from.rise || self.pulses.len() <= to.rise as usize {
             return 0;
         }
         self.price_by(from, to).min(CANNOT) as u32
@@ -94,40 +94,46 @@ impl<'a> Costs for Prices<'a> {
     }
 
     fn jump_to(&self, from: Claim, later: usize, _class: usize) -> u32 {
-        self.jump(self.role_at(from.element), from.rise, later)
+        self.jump(
+            self.role_at(from.element as usize),
+            from.rise as usize,
+            later,
+        )
     }
 
     fn jump_from(&self, rise: usize, class: usize, to: Claim) -> u32 {
-        self.jump(role_of(class), rise, to.rise)
+        self.jump(role_of(class), rise, to.rise as usize)
     }
 
     fn reach_from(&self, from: Claim, later: usize) -> Reach {
-        if later <= from.rise || self.pulses.len() <= later {
+        let rise = from.rise as usize;
+        if later <= rise || self.pulses.len() <= later {
             return Reach::all();
         }
         let size = self.roles.len() as u64;
-        let gone = self.gone(from.rise, later);
+        let gone = self.gone(rise, later);
         Reach {
             size,
             turned: false,
             origin: size - from.element as u64 % size,
             turn: size - gone % size,
-            spare: self.spare(from.rise, later, gone),
+            spare: self.spare(rise, later, gone),
         }
     }
 
     fn reach_to(&self, rise: usize, to: Claim) -> Reach {
-        if to.rise <= rise || self.pulses.len() <= to.rise {
+        let later = to.rise as usize;
+        if later <= rise || self.pulses.len() <= later {
             return Reach::all();
         }
         let size = self.roles.len() as u64;
-        let gone = self.gone(rise, to.rise);
+        let gone = self.gone(rise, later);
         Reach {
             size,
             turned: true,
             origin: size + to.element as u64 % size,
             turn: size - gone % size,
-            spare: self.spare(rise, to.rise, gone),
+            spare: self.spare(rise, later, gone),
         }
     }
 
@@ -211,17 +217,16 @@ impl<'a> Prices<'a> {
         ensures { result
             ≡ price_by self.now from.rise from.element to.rise to.element to.kind }
     {
-        let role = self.role_at(from.element);
-        let gone = self.gone(from.rise, to.rise);
+        let role = self.role_at(from.element as usize);
+        let (rise, later) = (from.rise as usize, to.rise as usize);
+        let gone = self.gone(rise, later);
         let size = self.roles.len() as u64;
         let ahead = ahead(size, from.element as u64, to.element as u64);
         match to.kind {
-            Kind::Next => self.on_by(role, from.rise, to.rise, counted(size, ahead, gone), gone),
-            Kind::Step if is_next(size, ahead, gone) => {
-                STEP + self.least(role, from.rise, to.rise)
-            }
+            Kind::Next => self.on_by(role, rise, later, counted(size, ahead, gone), gone),
+            Kind::Step if is_next(size, ahead, gone) => STEP + self.least(role, rise, later),
             Kind::Step => CANNOT,
-            Kind::Jump => JUMP + self.least(role, from.rise, to.rise),
+            Kind::Jump => JUMP + self.least(role, rise, later),
         }
     }
 }

@@ -33,7 +33,7 @@ pub fn read_back<C: Costs>(
     let mut at = end.last;
     'back: while let Some(number) = at {
         let to = nodes[number].claim(Kind::Next);
-        let near = nodes_near(rises.window, nodes, to.rise);
+        let near = nodes_near(rises.window, nodes, to.rise as usize);
         let way = cheapest(costs, rises, nodes, near, to, nodes[number].cost);
         claims.push(nodes[number].claim(way.kind))?;
         at = way.from;

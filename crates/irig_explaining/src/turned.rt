@@ -1,6 +1,6 @@
 //! A recording that is read from its end.
 
-ghost use Rattle.std.specs.Prelude.{◌≡◌, ◌-◌};
+ghost use Rattle.std.specs.Prelude.{◌≡◌, ◌-◌, ◌^◌, ◌≤◌};
 
 use crate::claim::{Claim, Kind};
 use crate::costs::Costs;
@@ -13,6 +13,7 @@ pub struct Turned<'a, C> {
     pub costs: &'a C,
     /// How many rises there are.
     pub count: usize,
+    ghost few: { count ≤ 2 ^ 31 },
 }
 
 impl<'a, C: Costs> Turned<'a, C> {
@@ -32,7 +33,7 @@ impl<'a, C: Costs> Turned<'a, C> {
         } }
     {
         Claim {
-            rise: self.turned(claim.rise),
+            rise: self.turned(claim.rise as usize) as u32,
             element: claim.element,
             kind,
         }

@@ -54,7 +54,7 @@ pub fn cheapest<C: Costs>(
     requires top { IsLed (C.price costs.now) rises nodes.now near to.rise to.element top }
     ensures { IsLeast (C.price costs.now) rises nodes.now to.rise to.element result }
 {
-    let mut best = Way::first(rises, to.rise);
+    let mut best = Way::first(rises, to.rise as usize);
     for from in near.start..near.end {
         best = offer(costs, nodes[from], from, to, top, best);
     }
@@ -69,7 +69,7 @@ fn top_to<C: Costs>(costs: &C, rises: Rises, nodes: &[Node], near: Near, to: Cla
     ensures { IsLed (C.price costs.now) rises nodes.now near to.rise to.element result }
 {
     if near.end <= near.start {
-        return rises.skipped(to.rise);
+        return rises.skipped(to.rise as usize);
     }
     let from = near.end - 1;
     come(costs, nodes[from], from, to, Kind::Jump).cost
@@ -93,7 +93,7 @@ fn offer<C: Costs>(costs: &C, node: Node, from: usize, to: Claim, top: u64, best
     requires { node.cost < 2 ^ 63 }
     ensures { Offered (C.price costs.now) node from to top best result }
 {
-    if top < least_from(costs, node, to.rise, top) {
+    if top < least_from(costs, node, to.rise as usize, top) {
         return best;
     }
     let next = come(costs, node, from, to, Kind::Next);

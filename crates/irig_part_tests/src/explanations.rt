@@ -1,7 +1,6 @@
 //! The cheapest explanation of ten rises, and the cost below which all give an interval a place.
 
 ghost use Rattle.std.specs.Prelude.{Bool, ◌≡◌, ◌^◌, ◌≤◌};
-ghost use Rattle.irig_explaining.specs.declared.claim.Kind.TheVariants.{Jump};
 ghost use Rattle.irig_part_tests.specs.Looks.{kind_price, look_place, look_price};
 
 use irig_explaining::{
@@ -29,6 +28,22 @@ fn price_of(kind: Kind, is_next: bool) -> u32
     }
 }
 
+impl Looks {
+    fn step(&self, rise: usize, element: usize, later: usize, next: usize, kind: Kind) -> u32
+        ensures { result ≡ look_price self.now.elements.now rise element later next kind }
+    {
+        let between = later.saturating_sub(rise).saturating_sub(1).min(9) as u32;
+        let look = if later < self.elements.len() {
+            self.elements[later]
+        } else {
+            100
+        };
+        let seen = if look == next { 0 } else { 20 };
+        let is_next = (element % ELEMENTS + 1) % ELEMENTS == next;
+        8 * between + seen + price_of(kind, is_next)
+    }
+}
+
 impl Costs for Looks {
     ghost price = { λ l. look_price l.elements.now };
 
@@ -37,15 +52,14 @@ impl Costs for Looks {
     ghost to_class = { λ l f. f };
 
     fn price(&self, from: Claim, to: Claim) -> u32 {
-        let between = to.rise.saturating_sub(from.rise).saturating_sub(1).min(9) as u32;
-        let look = if to.rise < self.elements.len() {
-            self.elements[to.rise]
-        } else {
-            100
-        };
-        let seen = if look == to.element { 0 } else { 20 };
-        let is_next = (from.element % ELEMENTS + 1) % ELEMENTS == to.element;
-        8 * between + seen + price_of(to.kind, is_next)
+        let (rise, later) = (from.rise as usize, to.rise as usize);
+        self.step(
+            rise,
+            from.element as usize,
+            later,
+            to.element as usize,
+            to.kind,
+        )
     }
 
     // A step to the next rise and element costs nothing.
@@ -74,11 +88,13 @@ impl Costs for Looks {
     }
 
     fn jump_to(&self, from: Claim, later: usize, class: usize) -> u32 {
-        self.price(from, jump(later, class))
+        let (rise, element) = (from.rise as usize, from.element as usize);
+        self.step(rise, element, later, class, Kind::Jump)
     }
 
     fn jump_from(&self, rise: usize, class: usize, to: Claim) -> u32 {
-        self.price(jump(rise, class), jump(to.rise, to.element))
+        let (later, element) = (to.rise as usize, to.element as usize);
+        self.step(rise, class, later, element, Kind::Jump)
     }
 
     fn reach_from(&self, _from: Claim, _later: usize) -> Reach {
@@ -100,21 +116,12 @@ impl Costs for Looks {
     }
 }
 
-fn jump(rise: usize, element: usize) -> Claim
-    ensures { result ≡ record { rise = rise; element = element; kind = Jump } }
-{
-    Claim {
-        rise,
-        element,
-        kind: Kind::Jump,
-    }
-}
-
 impl Places for Looks {
     ghost place = { λ l r e q f k. look_place q f };
 
     fn place(&self, _from: Claim, to: Claim) -> u64 {
-        ((to.element % ELEMENTS + ELEMENTS - to.rise % ELEMENTS) % ELEMENTS) as u64
+        let (rise, element) = (to.rise as usize, to.element as usize);
+        ((element % ELEMENTS + ELEMENTS - rise % ELEMENTS) % ELEMENTS) as u64
     }
 }
 
@@ -139,7 +146,7 @@ const EIGHT: Rises = Rises {
 };
 
 /// By hand: the cheapest explanation passes over rise 3 for 8, and jumps for 16.
-static CLAIMS: [(usize, usize); 9] = [
+static CLAIMS: [(u32, u32); 9] = [
     (0, 3),
     (1, 4),
     (2, 5),
@@ -152,7 +159,7 @@ static CLAIMS: [(usize, usize); 9] = [
 ];
 
 /// By hand: with eight elements the four last rises look like none, so they are none for 8 each.
-static CLAIMS_OF_EIGHT: [(usize, usize); 5] = [(0, 3), (1, 4), (2, 5), (4, 6), (5, 7)];
+static CLAIMS_OF_EIGHT: [(u32, u32); 5] = [(0, 3), (1, 4), (2, 5), (4, 6), (5, 7)];
 
 /// An interval, a place, and the cost below which all explanations give it the place, by
 /// `tests/reference/explanations.py`. The cheapest one costs 24: it does not, if a row says 24.
@@ -171,7 +178,7 @@ static BOUNDS: [(usize, u64, u64); 12] = [
     (6, 2, 24),
 ];
 
-fn has(explanation: &Explanation, claims: &[(usize, usize)], cost: u64) -> bool {
+fn has(explanation: &Explanation, claims: &[(u32, u32)], cost: u64) -> bool {
     let found = explanation.claims.as_slice();
     if found.len() != claims.len() || explanation.cost != cost {
         return false;
@@ -188,7 +195,7 @@ fn has(explanation: &Explanation, claims: &[(usize, usize)], cost: u64) -> bool 
 fn is_cheapest(
     alloc: Global,
     rises: Rises,
-    claims: &[(usize, usize)],
+    claims: &[(u32, u32)],
     cost: u64,
 ) -> Result<bool, AllocError>
     requires { rises.count ≤ 2 ^ 30 }
