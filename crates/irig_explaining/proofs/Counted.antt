@@ -5,7 +5,7 @@ use Rattle.std.proofs.lemmas.Bool.{ne_eqb}
 use Rattle.std.proofs.lemmas.List.Elements.{All-get_or}
 use Rattle.irig_explaining.specs.declared.{prices.Prices.Prices, role.Role.Role}
 use Rattle.irig_explaining.specs.Distances.{apart, gone, interval, rise_at}
-use Rattle.irig_explaining.specs.declared.table.TheConstants.{FAR}
+use Rattle.irig_explaining.specs.declared.table.TheConstants.{NOTHING}
 use Rattle.irig_explaining.specs.Wires.{between, element, passed, wire, wire_end}
 
 pub wire_one : (p : Prices) (role : Role) (r q count : ℕ) → count ≡ 1 → wire p role r q count ≡ element p role r (rise_at p q)
@@ -41,13 +41,14 @@ far_many p r later q lt le there far one =
     let i = interval p r q in
     two_at_least ((2 * apart p r q + i) / (2 * i)) (many (apart p r q) i (omega (arith, a.0, b.0)) (omega (arith, a.1, b.1, order, far))) one
 
--- between rises that are nine elements apart, with eight rises between, eight elements look like nothing at least
-nine : (apart interval : ℕ) → 0 < interval → 9 * interval ≤ apart → 9 ≤ (2 * apart + interval) / (2 * interval)
-nine apart interval some far = (le-div_iff_mul-le {k = 2 * interval} {x = 9} {y = 2 * apart + interval} (omega arith)).1 (omega (arith, far))
+-- between rises that are more than some elements apart, with that many rises between, that many elements look like nothing at least
+more : (apart interval count : ℕ) → 0 < interval → (count + 1) * interval ≤ apart → count + 1 ≤ (2 * apart + interval) / (2 * interval)
+more apart interval count some far =
+    (le-div_iff_mul-le {k = 2 * interval} {x = count + 1} {y = 2 * apart + interval} (omega arith)).1 (omega (arith, far))
 
-pub far_wire : (p : Prices) (role : Role) (r q : ℕ) → 0 < interval p r q → 9 * interval p r q ≤ apart p r q → 8 ≤ passed p r q
-    → FAR ≤ wire p role r q (gone p r q)
-far_wire p role r q some far noise =
-    let n = nine (apart p r q) (interval p r q) some far in
-    let count : 9 ≤ gone p r q = omega (arith, n) in
-    omega (arith, count, noise, wire_more p role r q (gone p r q) (omega (arith, count)))
+pub far_wire : (p : Prices) (role : Role) (r q count : ℕ) → 0 < count → 0 < interval p r q → (count + 1) * interval p r q ≤ apart p r q
+    → count ≤ passed p r q → count * NOTHING ≤ wire p role r q (gone p r q)
+far_wire p role r q count first some far noise =
+    let n = more (apart p r q) (interval p r q) count some far in
+    let many : count + 1 ≤ gone p r q = omega (arith, n) in
+    omega (arith, many, noise, wire_more p role r q (gone p r q) (omega (arith, many, first)))

@@ -1,16 +1,16 @@
 -- A table of nodes as it grows.
-use Rattle.std.proofs.Common.{◌≡◌, ◌+◌, ◌-◌, ◌*◌, ◌^◌, ◌<◌, ◌≤◌, ◌++◌, ℕ, zero, suc, List, [], ◌∷◌, length, MatchOption, slice_get, Option, Some, None, sym, subst, inl, inr, arith, refl, length-append, below_more}
+use Rattle.std.proofs.Common.{◌≡◌, ◌+◌, ◌-◌, ◌*◌, ◌^◌, ◌<◌, ◌≤◌, ◌++◌, ℕ, zero, suc, List, [], ◌∷◌, length, get_or, MatchOption, slice_get, Option, Some, None, sym, subst, inl, inr, arith, refl, length-append}
 use Rattle.std.specs.List.{All, Contains}
 use Rattle.std.specs.List.Sorted.{IsNonDecreasingBy}
 use Rattle.std.proofs.Math.Nat.{mul-le-mul_left}
 use Rattle.std.proofs.lemmas.Bool.{cases_lt}
 use Rattle.std.proofs.lemmas.List.{get_or_append_left, get_or-append_right}
-use Rattle.std.proofs.lemmas.List.Elements.{All-append, All-contains, All-push, All-weaker, Contains-append_cases, Contains-append_left, Contains-append_right, Contains-push}
+use Rattle.std.proofs.lemmas.List.Elements.{All-append, All-contains, All-weaker, Contains-append_cases, Contains-append_left, Contains-append_right}
 use Rattle.irig_explaining.specs.declared.{rises.Rises.Rises, nodes.Node.Node, ways.Way.Way}
 use Rattle.irig_explaining.specs.declared.claim.Kind.TheVariants.{Jump}
 use Rattle.irig_explaining.specs.Explanation.{Price}
-use Rattle.irig_explaining.specs.Nodes.{AreNodes, ComesFrom, IsCost, IsKnown, IsLeast, IsLow, IsNode, going}
-use Rattle.irig_explaining.specs.Rows.{AreKept, Has, IsBeaten, IsLeastOf, IsOf, IsRow, node_at}
+use Rattle.irig_explaining.specs.Nodes.{AreNodes, ComesFrom, IsCost, IsKnown, IsLeast, IsLow, IsNode}
+use Rattle.irig_explaining.specs.Rows.{AreKept, IsBeaten, IsIn, IsLeastOf, IsMost, IsRow, node_of}
 use Rattle.irig_explaining.proofs.LeastWays.{small_cost}
 
 -- what was there stays there
@@ -70,65 +70,53 @@ known_still price rises nodes more r q f from le h = record {
   steps = h.steps;
 }
 
--- the nodes of a row are of its rise, and so are those that are kept
-row_from : (price : Price) (rises : Rises) (nodes row more : List Node) (r best : ℕ) → IsRow price rises nodes r rises.states row
-    → AreKept price row best more → From r more
-row_from price rises nodes row more r best is kept = λ m there.
-    let of = All-contains (IsOf price rises nodes r rises.states) row m is.each (All-contains (Contains row) more m kept.those there) in
-    let e = of.rise in omega arith
+-- the nodes that are kept are of their rise
+row_from : (price : Price) (row : List ℕ) (more : List Node) (r best : ℕ) → AreKept price r row best more → From r more
+row_from price row more r best kept = λ m there. let of = All-contains (IsIn r row) more m kept.those there in let e = of.0 in omega arith
 
--- a claim whose node is left out: the best one of the row stands for it
-left_out : (price : Price) (rises : Rises) (nodes row more : List Node) (r best e : ℕ) (n : Node)
-    → IsRow price rises nodes r rises.states row → AreKept price row best more → best < length row
-    → n.rise ≡ r → n.element ≡ e → IsCost price rises nodes r e n.cost → IsBeaten price (node_at row best) n
-    → IsKnown price rises (nodes ++ more) r e
-left_out price rises nodes row more r best e n is kept lt rise element costs beaten =
-    let m = node_at row best in
-    let there = kept.best_too lt in
-    let of = All-contains (IsOf price rises nodes r rises.states) row m is.each (All-contains (Contains row) more m kept.those there) in
-    record {
-      node = m;
-      there = Contains-append_right nodes more m there;
-      beside = of.rise;
-      least = n.cost;
-      costs = cost_still price rises nodes more r r e n.cost (row_from price rises nodes row more r best is kept) (omega arith) costs;
-      cheap = beaten.cheap;
-      steps = λ q f k. (
-        Jump,
-        subst (λ x. going price m q f Jump ≤ n.cost + price x e q f k) rise
-            (subst (λ x. going price m q f Jump ≤ n.cost + price n.rise x q f k) element (beaten.steps q f k)),
-      );
-    }
-
--- one whose node is kept
-kept_itself : (price : Price) (rises : Rises) (nodes row more : List Node) (r best e : ℕ) (n : Node)
-    → IsRow price rises nodes r rises.states row → AreKept price row best more → Contains more n → n.rise ≡ r → n.element ≡ e
-    → IsCost price rises nodes r e n.cost → IsKnown price rises (nodes ++ more) r e
-kept_itself price rises nodes row more r best e n is kept there rise element costs = record {
-  node = n;
-  there = Contains-append_right nodes more n there;
-  beside = rise;
-  least = n.cost;
-  costs = cost_still price rises nodes more r r e n.cost (row_from price rises nodes row more r best is kept) (omega arith) costs;
-  cheap = omega arith;
-  steps = λ q f k. (
-    k,
-    subst (λ x. n.cost + price x n.element q f k ≤ n.cost + price r e q f k) (sym rise)
-        (subst (λ x. n.cost + price r x q f k ≤ n.cost + price r e q f k) (sym element) (omega arith)),
-  );
+-- an element is beaten if it costs more than the best one by the most
+pub beaten_by : (price : Price) (r best e : ℕ) (row : List ℕ) (most : ℕ) → IsMost price r best e most → get_or row best 0 ≤ get_or row e 0
+    → most ≤ get_or row e 0 - get_or row best 0 → IsBeaten price (node_of r row best) (node_of r row e)
+beaten_by price r best e row most is low le = record {
+  cheap = low;
+  steps = λ q f k. let m = is q f k in omega (arith, m, low, le);
 }
 
-known_new : (price : Price) (rises : Rises) (nodes row more : List Node) (r best e : ℕ)
-    → IsRow price rises nodes r rises.states row → IsLeastOf row best → AreKept price row best more → e < rises.states
+-- a claim whose node is left out: the best one of the row stands for it
+left_out : (price : Price) (rises : Rises) (nodes : List Node) (row : List ℕ) (more : List Node) (r best e : ℕ)
+    → IsRow price rises nodes r row → AreKept price r row best more → best < length row → e < rises.states
+    → IsBeaten price (node_of r row best) (node_of r row e) → IsKnown price rises (nodes ++ more) r e
+left_out price rises nodes row more r best e is kept lt there beaten = record {
+  node = node_of r row best;
+  there = Contains-append_right nodes more (node_of r row best) (kept.best_too lt);
+  beside = refl;
+  least = get_or row e 0;
+  costs = cost_still price rises nodes more r r e (get_or row e 0) (row_from price row more r best kept) (omega arith) (is.each e there);
+  cheap = beaten.cheap;
+  steps = λ q f k. (Jump, beaten.steps q f k);
+}
+
+-- one whose node is kept
+kept_itself : (price : Price) (rises : Rises) (nodes : List Node) (row : List ℕ) (more : List Node) (r best e : ℕ)
+    → IsRow price rises nodes r row → AreKept price r row best more → e < rises.states → Contains more (node_of r row e)
+    → IsKnown price rises (nodes ++ more) r e
+kept_itself price rises nodes row more r best e is kept lt there = record {
+  node = node_of r row e;
+  there = Contains-append_right nodes more (node_of r row e) there;
+  beside = refl;
+  least = get_or row e 0;
+  costs = cost_still price rises nodes more r r e (get_or row e 0) (row_from price row more r best kept) (omega arith) (is.each e lt);
+  cheap = omega arith;
+  steps = λ q f k. (k, omega arith);
+}
+
+known_new : (price : Price) (rises : Rises) (nodes : List Node) (row : List ℕ) (more : List Node) (r best e : ℕ)
+    → IsRow price rises nodes r row → IsLeastOf row best → AreKept price r row best more → e < rises.states
     → IsKnown price rises (nodes ++ more) r e
 known_new price rises nodes row more r best e is least kept lt =
-    let has = is.all e lt in let n = has.node in
-    let of = All-contains (IsOf price rises nodes r rises.states) row n is.each has.there in
-    let costs = subst (λ x. IsCost price rises nodes r x n.cost) has.element of.costs in
-    let here : 0 < length row = let k = has.there.0 in let in_it = has.there.1 in omega arith in
-    elim (kept.others n has.there) [
-      | inl there ↦ kept_itself price rises nodes row more r best e n is kept there of.rise has.element costs
-      | inr beaten ↦ left_out price rises nodes row more r best e n is kept (least.there here) of.rise has.element costs beaten
+    elim (kept.others e (omega (arith, is.all, lt))) [
+      | inl there ↦ kept_itself price rises nodes row more r best e is kept lt there
+      | inr beaten ↦ left_out price rises nodes row more r best e is kept (least.there (omega (arith, is.all, lt))) lt beaten
     ]
 
 -- the nodes of later rises come later
@@ -154,14 +142,12 @@ sorted_more xs ys r sorted below at = λ i j d le lt.
     ]
 
 -- the table with one more rise
-pub nodes_more : (price : Price) (rises : Rises) (nodes row more : List Node) (r best : ℕ) → AreNodes price rises r nodes
-    → IsRow price rises nodes r rises.states row → IsLeastOf row best → AreKept price row best more
+pub nodes_more : (price : Price) (rises : Rises) (nodes : List Node) (row : List ℕ) (more : List Node) (r best : ℕ)
+    → AreNodes price rises r nodes → IsRow price rises nodes r row → IsLeastOf row best → AreKept price r row best more
     → AreNodes price rises (r + 1) (nodes ++ more)
 nodes_more price rises nodes row more r best are is least kept =
     let new = nodes ++ more in
-    let from = row_from price rises nodes row more r best is kept in
-    let of = All-weaker (Contains row) (IsOf price rises nodes r rises.states)
-    (λ n there. All-contains (IsOf price rises nodes r rises.states) row n is.each there) more kept.those in record {
+    let from = row_from price row more r best kept in record {
       known = λ q e lt small.
           elim (cases_lt q r) [
             | inl before ↦ known_still price rises nodes more r q e from (omega arith) (are.known q e before small)
@@ -174,15 +160,17 @@ nodes_more price rises nodes row more r best are is least kept =
             element = h.element;
             costs = cost_still price rises nodes more r n.rise n.element n.cost from (omega arith) h.costs;
           }) nodes are.each)
-          (All-weaker (IsOf price rises nodes r rises.states) (IsNode price rises (r + 1) new) (λ n h. let same = h.rise in record {
+          (All-weaker (IsIn r row) (IsNode price rises (r + 1) new) (λ n h.
+          let same = h.0 in let lt : n.element < rises.states = omega (arith, h.1, is.all) in record {
             rise = omega arith;
-            element = h.element;
-            costs = subst (λ x. IsCost price rises new x n.element n.cost) (sym h.rise)
-                (cost_still price rises nodes more r r n.element n.cost from (omega arith) h.costs);
-          }) more of);
+            element = lt;
+            costs = subst (λ x. IsCost price rises new x n.element n.cost) (sym h.0)
+                (subst (λ x. IsCost price rises new r n.element x) (sym h.2)
+                (cost_still price rises nodes more r r n.element (get_or row n.element 0) from (omega arith) (is.each n.element lt)));
+          }) more kept.those);
       sorted = sorted_more nodes more r are.sorted
           (All-weaker (IsNode price rises r nodes) (λ n. n.rise < r) (λ n h. h.rise) nodes are.each)
-          (All-weaker (IsOf price rises nodes r rises.states) (λ n. n.rise ≡ r) (λ n h. h.rise) more of);
+          (All-weaker (IsIn r row) (λ n. n.rise ≡ r) (λ n h. h.0) more kept.those);
     }
 
 -- no cost in a table is too large
@@ -191,29 +179,6 @@ pub small_nodes : (price : Price) (rises : Rises) (done : ℕ) (nodes : List Nod
 small_nodes price rises done nodes are few fits =
     All-weaker (IsNode price rises done nodes) (λ n. n.cost < 2 ^ 63) (λ n h. let lt = h.rise in
     small_cost rises.skip n.rise n.cost fits (omega arith) (omega (arith, h.costs.is.low.first, h.costs.exact))) nodes are.each
-
--- a row with one more node
-pub row_more : (price : Price) (rises : Rises) (nodes : List Node) (r i : ℕ) (row : List Node) (low : ℕ) → IsRow price rises nodes r i row
-    → IsCost price rises nodes r i low → IsRow price rises nodes r (i + 1) (row ++ record { cost = low; rise = r; element = i } ∷ [])
-row_more price rises nodes r i row low is costs =
-    let n : Node = record { cost = low; rise = r; element = i } in
-    let P : ℕ → Type 0 = λ e. Has (row ++ n ∷ []) e in record {
-      each = All-push (IsOf price rises nodes r (i + 1)) row n
-          (All-weaker (IsOf price rises nodes r i) (IsOf price rises nodes r (i + 1)) (λ m h. let lt = h.element in record {
-            rise = h.rise;
-            element = omega arith;
-            costs = h.costs;
-          }) row is.each)
-          (record { rise = refl; element = omega arith; costs = costs });
-      all = λ e lt. below_more P i
-          (λ e lt. let has = is.all e lt in record {
-            node = has.node;
-            there = Contains-append_left row (n ∷ []) has.node has.there;
-            element = has.element;
-          })
-          (record { node = n; there = Contains-push row n; element = refl })
-          e lt;
-    }
 
 -- nor any least one, if there are only half as many rises
 pub small_least : (price : Price) (rises : Rises) (nodes : List Node) (q f : ℕ) (w : Way) → IsLeast price rises nodes q f w → q < rises.count

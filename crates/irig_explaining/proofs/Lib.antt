@@ -18,3 +18,4 @@ pub mod Elsewhere
 pub mod Placed
 pub mod Others
 pub mod Passed
+pub mod FarApart

@@ -34,3 +34,23 @@ pub count_from : (m i : ℕ) (ps : List Pulse) → ((j : ℕ) (d : Pulse) → j 
 count_from m i ps low high =
     subst (λ (xs : List Pulse). count_by (λ p. nat_le m p.rise) xs ≡ length ps - i) (take_all (length ps) ps (omega arith))
     (count_up_to m i (length ps) ps low high (omega arith))
+
+-- if the last ones come at it or after it
+last_up_to : (m i n : ℕ) (ps : List Pulse) → ((j : ℕ) (d : Pulse) → i ≤ j → j < length ps → m ≤ (get_or ps j d).rise) → n ≤ length ps
+    → n - i ≤ count_by (λ p. nat_le m p.rise) (take n ps)
+last_up_to m i zero ps high le = omega arith
+last_up_to m i (suc n) ps high le = elim (cases_lt n i) [
+  | inl under ↦ omega (arith, under)
+  | inr over ↦
+      let lt : n < length ps = omega arith in
+      let one : n + 1 ≡ suc n = omega arith in
+      let rest = last_up_to m i n ps high (omega arith) in
+      let e = count_by_more_yes (λ p. nat_le m p.rise) ps n no_pulse lt (le-leb m (get_or ps n no_pulse).rise (high n no_pulse over lt)) in
+      subst (λ k. suc n - i ≤ count_by (λ p. nat_le m p.rise) (take k ps)) one (omega (arith, e, rest, over))
+]
+
+pub count_last : (m i : ℕ) (ps : List Pulse) → ((j : ℕ) (d : Pulse) → i ≤ j → j < length ps → m ≤ (get_or ps j d).rise)
+    → length ps - i ≤ count_by (λ p. nat_le m p.rise) ps
+count_last m i ps high =
+    subst (λ (xs : List Pulse). length ps - i ≤ count_by (λ p. nat_le m p.rise) xs) (take_all (length ps) ps (omega arith))
+    (last_up_to m i (length ps) ps high (omega arith))

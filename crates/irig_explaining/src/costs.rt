@@ -7,6 +7,7 @@ ghost use Rattle.irig_explaining.specs.declared.claim.Kind.TheVariants.{Jump};
 
 use crate::claim::{Claim, Kind};
 use crate::reach::Reach;
+use crate::remote::Remote;
 
 /// The costs of steps. `price` takes the rise and the element of a claim, those of the next one,
 /// and the kind of the step between them. A jump depends on its elements only by their classes.
@@ -26,7 +27,18 @@ pub trait Costs {
     fn least(&self, rise: usize, later: usize, enough: u64) -> u32
         ensures { (e f : ℕ) (k : Kind) → result ≤ price self.now rise e later f k };
 
-    /// The same of the steps of a kind.
+    /// What steps to a rise cost at least from the rises before one. None of these is looked at if
+    /// that is too much.
+    fn remote_from(&self, later: usize) -> Remote
+        ensures { (r e f : ℕ) (k : Kind) → r < result.rise
+            → result.least ≤ price self.now r e later f k };
+
+    /// The same of steps from a rise to those from one on, of some rises.
+    fn remote_to(&self, rise: usize, count: usize) -> Remote
+        ensures { (e q f : ℕ) (k : Kind) → result.rise ≤ q → q < count
+            → result.least ≤ price self.now rise e q f k };
+
+    /// What each step of a kind between claims of two rises costs at least.
     fn least_by(&self, rise: usize, later: usize, kind: Kind) -> u32
         ensures { (e f : ℕ) → result ≤ price self.now rise e later f kind };
 

@@ -5,6 +5,7 @@ ghost use Rattle.irig_explaining.specs.Distances.{apart, gone, interval, interva
 ghost use Rattle.irig_explaining.specs.Distances.{far, is_off, late};
 ghost use Rattle.irig_explaining.specs.Priced.{least, on, tremble};
 
+use crate::division::quotient;
 use crate::prices::Prices;
 use crate::role::Role;
 use crate::table::{CANNOT, OFF_LINE, PART, TREMBLE};
@@ -49,7 +50,8 @@ impl<'a> Prices<'a> {
         (self.interval_at(rise) + self.interval_at(later)) / 2
     }
 
-    /// How many elements the clock says lie between two rises.
+    /// How many elements the clock says lie between two rises. Most often it is one or two, and a
+    /// division takes long.
     pub(crate) fn gone(&self, rise: usize, later: usize) -> u64
         requires rise { rise < length self.now.pulses.now }
         requires later { later < length self.now.pulses.now }
@@ -59,6 +61,12 @@ impl<'a> Prices<'a> {
     {
         let interval = self.interval(rise, later);
         let apart = self.apart(rise, later);
+        if 2 * apart < 3 * interval {
+            return 1;
+        }
+        if 2 * apart < 5 * interval {
+            return 2;
+        }
         ((2 * apart + interval) / (2 * interval)).max(1)
     }
 
@@ -81,7 +89,8 @@ impl<'a> Prices<'a> {
     {
         let spread = self.clock.spread;
         let count = count.min(1_048_576);
-        32 * off * off / (spread * spread) / (4 + count * count)
+        let square = quotient(32 * off * off, spread * spread);
+        quotient(square, 4 + count * count)
     }
 
     /// Whether a rise is not that many elements after another one.

@@ -131,7 +131,7 @@ pub(crate) fn singles(alloc: Global, distances: &[Distance]) -> Result<Vec<u64>,
 {
     let mut singles = Vec::new(alloc);
     for distance in distances {
-        singles.push(distance.far / distance.count)?;
+        singles.push(distance.single())?;
     }
     Ok(singles)
 }

@@ -14,7 +14,7 @@ fn is_hardly_off(at: u64, spread: u64, distance: Distance) -> bool
     requires spread { spread < 2 ^ 32 }
     ensures { result ≡ is_hardly_off at spread distance }
 {
-    (distance.far / distance.count).abs_diff(at) <= 3 * spread
+    distance.single().abs_diff(at) <= 3 * spread
 }
 
 /// The mean of those that are.

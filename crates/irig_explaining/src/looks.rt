@@ -4,6 +4,7 @@ ghost use Rattle.std.specs.Prelude.{◌≡◌, ◌+◌, ◌*◌, ◌^◌, ◌<�
 ghost use Rattle.irig_explaining.specs.Looks.{Fits, IsTimely, cheapest_fall, extra, high, inside, look};
 ghost use Rattle.irig_explaining.specs.Looks.{one_pulse, role_look, width};
 
+use crate::division::quotient;
 use crate::pulse::Pulse;
 use crate::role::Role;
 use crate::stretch::Stretch;
@@ -59,8 +60,8 @@ impl Stretch {
         if self.interval < off {
             return WIDTH_MOST;
         }
-        let square = 8 * off * off / (self.width_spread * self.width_spread);
-        let linear = WIDTH + WIDTH_MORE * off / self.interval;
+        let square = quotient(8 * off * off, self.width_spread * self.width_spread);
+        let linear = WIDTH + quotient(WIDTH_MORE * off, self.interval);
         square.min(linear).min(WIDTH_MOST)
     }
 
@@ -74,7 +75,7 @@ impl Stretch {
     {
         let other = (low + self.high).saturating_sub(seen);
         let off = (PART * fall.saturating_sub(self.begin)).abs_diff(tenths * self.interval / 10);
-        self.extra + TURNED * PART * other / self.interval + self.width(off)
+        self.extra + quotient(TURNED * PART * other, self.interval) + self.width(off)
     }
 
     /// The cheapest of the falls up to the end. Before these pulses the wire was low between others

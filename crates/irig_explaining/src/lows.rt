@@ -3,9 +3,10 @@
 ghost use Rattle.std.specs.Prelude.{ℕ, ◌≡◌, ◌^◌, ◌<◌, ◌≤◌, ◌⊎◌, All, IfOk, length, slice_index_or, true};
 ghost use Rattle.irig_explaining.specs.Lows.{AreStepped, IsLower, IsUnder};
 ghost use Rattle.irig_explaining.specs.Near.{IsNear};
-ghost use Rattle.irig_explaining.specs.{Nodes.IsCost, Nodes.going, Opened.IsOpen, Opened.no_way};
+ghost use Rattle.irig_explaining.specs.{Nodes.going, Opened.IsOpen, Opened.no_way, Rows.IsRow};
 ghost use Rattle.irig_explaining.specs.Reached.{IsReach, reaches};
 ghost use Rattle.irig_explaining.specs.declared.claim.Kind.{Kind};
+ghost use Rattle.irig_explaining.specs.declared.claim.Kind.TheVariants.{Step};
 
 use crate::claim::{Claim, Kind};
 use crate::costs::Costs;
@@ -30,8 +31,7 @@ pub(crate) fn lows<C: Costs>(
     requires few { rise < 2 ^ 31 }
     requires small { All (λ n. n.cost < 2 ^ 63) nodes.now }
     requires near { IsNear rises.window nodes.now rise near }
-    ensures { IfOk result (λ lows. (f : ℕ) → f < rises.states → (f < length lows.items)
-        × IsCost (C.price costs.now) rises nodes.now rise f (slice_index_or lows.items f 0)) }
+    ensures { IfOk result (λ lows. IsRow (C.price costs.now) rises nodes.now rise lows.items) }
 {
     let top = top_of(costs, rises, nodes, near, rise);
     let found = open_nodes(alloc, costs, rises, nodes, near, rise, top)?;
@@ -139,33 +139,26 @@ fn lower<C: Costs>(costs: &C, node: Node, least: u64, rise: usize, element: usiz
     if low <= least {
         return low;
     }
-    let next = lower_by(costs, node, rise, element, Kind::Next, low);
-    lower_by(costs, node, rise, element, Kind::Step, next)
-}
-
-/// The same for steps of a kind. None is priced if none can be cheaper.
-fn lower_by<C: Costs>(
-    costs: &C,
-    node: Node,
-    rise: usize,
-    element: usize,
-    kind: Kind,
-    low: u64,
-) -> u64
-    requires small { node.cost < 2 ^ 63 }
-    requires rise { rise < 2 ^ 32 }
-    requires element { element < 2 ^ 32 }
-    ensures kept { result ≤ low }
-    ensures least { result ≤ going (C.price costs.now) node rise element kind }
-    ensures origin { (result ≡ low) ⊎ (result ≡ going (C.price costs.now) node rise element kind) }
-{
-    if low <= node.cost + u64::from(costs.least_by(node.rise as usize, rise, kind)) {
-        return low;
-    }
     let to = Claim {
         rise: rise as u32,
         element: element as u32,
-        kind,
+        kind: Kind::Next,
     };
-    low.min(come(costs, node, 0, to, kind).cost)
+    let next = low.min(come(costs, node, 0, to, Kind::Next).cost);
+    lower_by_step(costs, node, to, next)
+}
+
+/// The same for steps in time. None is priced if none can be cheaper.
+fn lower_by_step<C: Costs>(costs: &C, node: Node, to: Claim, low: u64) -> u64
+    requires { node.cost < 2 ^ 63 }
+    ensures kept { result ≤ low }
+    ensures least { result ≤ going (C.price costs.now) node to.rise to.element Step }
+    ensures origin { (result ≡ low)
+        ⊎ (result ≡ going (C.price costs.now) node to.rise to.element Step) }
+{
+    let least = costs.least_by(node.rise as usize, to.rise as usize, Kind::Step);
+    if low <= node.cost + u64::from(least) {
+        return low;
+    }
+    low.min(come(costs, node, 0, to, Kind::Step).cost)
 }

@@ -1,9 +1,9 @@
 //! The table of nodes: the claims that a cheapest explanation may need, each with the least cost of
 //! all ways to it.
 
-ghost use Rattle.std.specs.Prelude.{ℕ, ◌≡◌, ◌+◌, ◌^◌, ◌<◌, ◌≤◌, ◌⊎◌, All, IfOk, length, slice_index_or, true};
+ghost use Rattle.std.specs.Prelude.{ℕ, ◌≡◌, ◌^◌, ◌<◌, ◌≤◌, ◌⊎◌, All, IfOk, length, slice_index_or, true};
 ghost use Rattle.irig_explaining.specs.Nodes.{AreNodes};
-ghost use Rattle.irig_explaining.specs.Rows.{AreKept, IsBeaten, IsLeastOf, IsMost, IsRow};
+ghost use Rattle.irig_explaining.specs.Rows.{AreKept, IsLeastOf, IsMost, IsRow};
 
 use crate::claim::{Claim, Kind};
 use crate::costs::Costs;
@@ -45,48 +45,37 @@ pub fn nodes<C: Costs>(alloc: Global, costs: &C, rises: Rises) -> Result<Vec<Nod
 {
     let mut nodes = Vec::new(alloc);
     for rise in 0..rises.count {
-        let row = row(alloc, costs, rises, nodes.as_slice(), rise)?;
-        let best = least_of(row.as_slice());
-        let kept = kept(alloc, costs, rises.states, rise, row.as_slice(), best)?;
+        let found = row(alloc, costs, rises, nodes.as_slice(), rise)?;
+        let row = found.as_slice();
+        let kept = kept(alloc, costs, rise, row, least_of(row))?;
         nodes.extend_from_slice(kept.as_slice())?;
     }
     Ok(nodes)
 }
 
-/// The nodes of all claims of a rise, when those of the rises before are known.
+/// The least costs of all claims of a rise, when the nodes of the rises before are known.
 fn row<C: Costs>(
     alloc: Global,
     costs: &C,
     rises: Rises,
     nodes: &[Node],
     rise: usize,
-) -> Result<Vec<Node>, AllocError>
+) -> Result<Vec<u64>, AllocError>
     requires nodes { AreNodes (C.price costs.now) rises rise nodes.now }
     requires few { rise < 2 ^ 31 }
-    ensures { IfOk result (λ row. IsRow (C.price costs.now) rises nodes.now rise rises.states
-        row.items) }
+    ensures { IfOk result (λ row. IsRow (C.price costs.now) rises nodes.now rise row.items) }
 {
     let near = nodes_near(rises.window, nodes, rise);
-    let found = lows(alloc, costs, rises, nodes, near, rise)?;
-    let lows = found.as_slice();
-    let mut row = Vec::with_capacity(alloc, rises.states as usize)?;
-    for element in 0..rises.states {
-        row.push(Node {
-            cost: lows[element as usize],
-            rise: rise as u32,
-            element,
-        })?;
-    }
-    Ok(row)
+    lows(alloc, costs, rises, nodes, near, rise)
 }
 
-/// The number of the cheapest of some nodes; 0 if there are none.
-fn least_of(row: &[Node]) -> usize
+/// The element that costs the least; 0 if there are none.
+fn least_of(row: &[u64]) -> usize
     ensures { IsLeastOf row.now result }
 {
     let mut best = 0;
     for index in 0..row.len() {
-        if row[index].cost < row[best].cost {
+        if row[index] < row[best] {
             best = index;
         }
     }
@@ -97,27 +86,44 @@ fn least_of(row: &[Node]) -> usize
 fn kept<C: Costs>(
     alloc: Global,
     costs: &C,
-    states: u32,
     rise: usize,
-    row: &[Node],
+    row: &[u64],
     best: usize,
 ) -> Result<Vec<Node>, AllocError>
-    requires rise { All (λ n. n.rise ≡ rise) row.now }
-    requires element { All (λ n. n.element < states) row.now }
+    requires rise { rise < 2 ^ 32 }
+    requires states { length row.now < 2 ^ 32 }
     requires best { IsLeastOf row.now best }
-    ensures { IfOk result (λ kept. AreKept (C.price costs.now) row.now best kept.items) }
+    ensures { IfOk result (λ kept. AreKept (C.price costs.now) rise row.now best kept.items) }
 {
     let mut kept = Vec::new(alloc);
     if row.is_empty() {
         return Ok(kept);
     }
-    let mosts = mosts(alloc, costs, states, rise, row[best].element as usize)?;
-    for index in 0..row.len() {
-        if is_needed(costs, mosts.as_slice(), row[best], row[index]) {
-            kept.push(row[index])?;
+    let found = mosts(alloc, costs, row.len() as u32, rise, best)?;
+    let mosts = found.as_slice();
+    let most = largest(mosts) as u64;
+    for element in 0..row.len() {
+        let more = row[element] - row[best];
+        if is_needed(costs, mosts, most, best, element, more) {
+            kept.push(Node {
+                cost: row[element],
+                rise: rise as u32,
+                element: element as u32,
+            })?;
         }
     }
     Ok(kept)
+}
+
+/// The largest of some numbers.
+fn largest(mosts: &[u32]) -> u32
+    ensures { All (λ m. m ≤ result) mosts.now }
+{
+    let mut most = 0;
+    for index in 0..mosts.len() {
+        most = mosts[index].max(most);
+    }
+    most
 }
 
 /// For each class how much more a jump from a claim costs at most than a step from its elements.
@@ -140,19 +146,27 @@ fn mosts<C: Costs>(
     Ok(mosts)
 }
 
-/// Whether a step from a node can be cheaper than a jump from a cheaper one, or is that one.
-fn is_needed<C: Costs>(costs: &C, mosts: &[u32], best: Node, node: Node) -> bool
-    requires cheap { best.cost ≤ node.cost }
-    requires there { C.from_class costs.now node.element < length mosts.now }
-    requires most { IsMost (C.price costs.now) node.rise best.element node.element
-        (slice_index_or mosts.now (C.from_class costs.now node.element) 0) }
-    requires rise { best.rise ≡ node.rise }
-    ensures beaten { (result ≡ true) ⊎ IsBeaten (C.price costs.now) best node }
-    ensures itself { node.element ≡ best.element → result ≡ true }
+/// Whether it is the best element, or a step from it can be cheaper than a jump from the best: it
+/// costs more by that. No most is larger than `most`.
+fn is_needed<C: Costs>(
+    costs: &C,
+    mosts: &[u32],
+    most: u64,
+    best: usize,
+    element: usize,
+    more: u64,
+) -> bool
+    requires there { C.from_class costs.now element < length mosts.now }
+    requires most { All (λ m. m ≤ most) mosts.now }
+    ensures beaten { (result ≡ true)
+        ⊎ (slice_index_or mosts.now (C.from_class costs.now element) 0 ≤ more) }
+    ensures itself { element ≡ best → result ≡ true }
 {
-    if node.element == best.element {
+    if element == best {
         return true;
     }
-    let class = costs.from_class(node.element as usize);
-    node.cost - best.cost < u64::from(mosts[class])
+    if most <= more {
+        return false;
+    }
+    more < u64::from(mosts[costs.from_class(element)])
 }

@@ -1,10 +1,10 @@
 //! The nodes from which a step to a rise can be the cheapest way.
 
-ghost use Rattle.std.specs.Prelude.{ℕ, ◌≡◌, ◌^◌, ◌<◌, ◌≤◌, All, IfOk, false};
+ghost use Rattle.std.specs.Prelude.{ℕ, ◌≡◌, ◌+◌, ◌^◌, ◌<◌, ◌≤◌, All, IfOk, Some, false, length, min, slice_get};
 ghost use Rattle.irig_explaining.specs.Near.{IsNear};
 ghost use Rattle.irig_explaining.specs.{Offers.IsTop, Opened.AreOpen};
 ghost use Rattle.irig_explaining.specs.{Nodes.going, Reached.IsReach, Reached.reaches};
-ghost use Rattle.irig_explaining.specs.declared.claim.Kind.{Kind};
+ghost use Rattle.irig_explaining.specs.declared.{claim.Kind.Kind, nodes.Node.Node};
 ghost use Rattle.irig_explaining.specs.declared.claim.Kind.TheVariants.{Jump};
 
 use crate::claim::Kind;
@@ -12,6 +12,7 @@ use crate::costs::Costs;
 use crate::near::Near;
 use crate::nodes::Node;
 use crate::opened::Open;
+use crate::remote::Remote;
 use crate::rises::Rises;
 use std::alloc::{AllocError, Global};
 
@@ -58,13 +59,45 @@ pub fn open_nodes<C: Costs>(
         near.end top opens.items) }
 {
     let mut opens = Vec::new(alloc);
-    for from in near.start..near.end {
+    for from in first_open(costs, nodes, near, rise, top)..near.end {
         let least = least_from(costs, nodes[from], rise, top);
         if least <= top {
             opens.push(opened(costs, nodes[from], from, rise, least))?;
         }
     }
     Ok(opens)
+}
+
+/// The number of a node near a rise: from those before it a step to the rise costs more than the
+/// top, since they are of remote rises.
+pub(crate) fn first_open<C: Costs>(
+    costs: &C,
+    nodes: &[Node],
+    near: Near,
+    rise: usize,
+    top: u64,
+) -> usize
+    requires small { All (λ n. n.cost < 2 ^ 63) nodes.now }
+    requires near { near.end ≤ length nodes.now }
+    ensures start { min near.start near.end ≤ result }
+    ensures others { (u f : ℕ) (m : Node) (k : Kind) → slice_get nodes.now u ≡ Some m
+        → near.start ≤ u → u < result → top < going (C.price costs.now) m rise f k }
+{
+    let remote = costs.remote_from(rise);
+    for from in near.start..near.end {
+        if can_be_open(nodes[from], remote, top) {
+            return from;
+        }
+    }
+    near.end
+}
+
+/// Whether a node is of no remote rise, or a step from it may cost no more than the top.
+fn can_be_open(node: Node, remote: Remote, top: u64) -> bool
+    requires { node.cost < 2 ^ 63 }
+    ensures { result ≡ false → (node.rise < remote.rise) × (top < node.cost + remote.least) }
+{
+    remote.rise <= node.rise as usize || node.cost + u64::from(remote.least) <= top
 }
 
 /// What a node and a step from it to a rise cost at least. The least above a top is enough.

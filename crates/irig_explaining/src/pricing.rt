@@ -4,16 +4,18 @@ ghost use Rattle.std.specs.Prelude.{ℕ, ◌≡◌, ◌+◌, ◌^◌, ◌<◌, �
 ghost use Rattle.irig_explaining.specs.Distances.{gone};
 ghost use Rattle.irig_explaining.specs.Priced.{ahead, counted, is_next, least, more_by, on_by, price};
 ghost use Rattle.irig_explaining.specs.Priced.{price_by, role_at};
-ghost use Rattle.irig_explaining.specs.{Classes.class_at, Classes.class_of};
+ghost use Rattle.irig_explaining.specs.{Classes.class_at};
 ghost use Rattle.irig_explaining.specs.declared.role.Role.{Role};
 ghost use Rattle.irig_explaining.specs.declared.claim.Kind.TheVariants.{Jump};
 
 use crate::claim::{Claim, Kind};
 use crate::costs::Costs;
+use crate::division::rest;
 use crate::prices::Prices;
 use crate::reach::Reach;
-use crate::role::Role;
-use crate::table::{CANNOT, JUMP, STEP};
+use crate::remote::Remote;
+use crate::role::{Role, role_of};
+use crate::table::{CANNOT, FAR, JUMP, STEP};
 
 /// How many elements one is after another, of a frame of some elements.
 pub(crate) fn ahead(size: u64, element: u64, other: u64) -> u64
@@ -22,7 +24,7 @@ pub(crate) fn ahead(size: u64, element: u64, other: u64) -> u64
     ensures exact { result ≡ ahead size element other }
     ensures within { result < size }
 {
-    (other % size + size - element % size) % size
+    rest(rest(other, size) + size - rest(element, size), size)
 }
 
 /// The number of elements that leads as far ahead, if it is at most five from what the clock says.
@@ -34,7 +36,7 @@ fn counted(size: u64, ahead: u64, gone: u64) -> Option<u64>
     ensures exact { result ≡ counted size ahead gone }
     ensures near { IfSome result (λ count. (0 < gone → 0 < count) × (count ≤ gone + 5)) }
 {
-    let more = (ahead + size - gone % size) % size;
+    let more = rest(ahead + size - rest(gone, size), size);
     if more < 6 {
         return Some(gone + more);
     }
@@ -64,6 +66,28 @@ impl<'a> Costs for Prices<'a> {
             return 0;
         }
         self.passing_up_to(rise, later, enough).min(CANNOT) as u32
+    }
+
+    fn remote_from(&self, later: usize) -> Remote {
+        if later < 5 || self.pulses.len() <= later {
+            return Remote { rise: 0, least: 0 };
+        }
+        let rise = self.far_before(later);
+        Remote {
+            rise,
+            least: FAR as u32,
+        }
+    }
+
+    fn remote_to(&self, rise: usize, count: usize) -> Remote {
+        if self.pulses.len() < count || count <= rise {
+            return Remote { rise: 0, least: 0 };
+        }
+        let rise = self.far_after(rise);
+        Remote {
+            rise,
+            least: FAR as u32,
+        }
     }
 
     fn least_by(&self, rise: usize, later: usize, kind: Kind) -> u32 {
@@ -161,28 +185,7 @@ fn more_by(kind: Kind) -> u64
     }
 }
 
-/// The role of the elements of a class.
-fn role_of(class: usize) -> Role
-    ensures { (role : Role) → class_of role ≡ class → result ≡ role }
-{
-    match class {
-        0 => Role::Unused,
-        1 => Role::Bit,
-        _ => Role::Position,
-    }
-}
-
 impl<'a> Prices<'a> {
-    fn role_at(&self, element: usize) -> Role
-        ensures { result ≡ role_at self.now element }
-    {
-        if element < self.roles.len() {
-            self.roles[element]
-        } else {
-            Role::Unused
-        }
-    }
-
     /// What a jump costs from a rise and an element of a role to another rise.
     fn jump(&self, role: Role, rise: usize, later: usize) -> u32
         ensures { (e f : ℕ) → role_at self.now e ≡ role
@@ -237,5 +240,5 @@ fn is_next(size: u64, ahead: u64, gone: u64) -> bool
     requires { 0 < size }
     ensures { result ≡ is_next size ahead gone }
 {
-    ahead == 1 % size || ahead == gone % size
+    ahead == rest(1, size) || ahead == rest(gone, size)
 }

@@ -52,8 +52,8 @@ pub(crate) const STEP: u64 = 192;
 /// The element number jumps: a part is cut out, or there twice.
 pub(crate) const JUMP: u64 = 256;
 
-/// Eight elements that look like nothing: no step over eight elements and eight rises costs less.
-pub(crate) const FAR: u64 = 8 * NOTHING;
+/// Elements that look like nothing: no step over five of them and five rises costs less.
+pub(crate) const FAR: u64 = 5 * NOTHING;
 
 /// A step that there is not, and more than any other one.
 pub(crate) const CANNOT: u64 = 16_777_216;

@@ -5,6 +5,7 @@ ghost use Rattle.std.specs.Prelude.{◌≡◌, ◌-◌, ◌^◌, ◌≤◌};
 use crate::claim::{Claim, Kind};
 use crate::costs::Costs;
 use crate::reach::Reach;
+use crate::remote::Remote;
 
 /// The costs of steps between rises that are numbered from the end.
 #[derive(Drop)]
@@ -55,6 +56,19 @@ impl<'a, C: Costs> Costs for Turned<'a, C> {
     fn least(&self, rise: usize, later: usize, enough: u64) -> u32 {
         self.costs
             .least(self.turned(later), self.turned(rise), enough)
+    }
+
+    fn remote_from(&self, later: usize) -> Remote {
+        let remote = self.costs.remote_to(self.turned(later), self.count);
+        Remote {
+            rise: self.count.saturating_sub(remote.rise),
+            least: remote.least,
+        }
+    }
+
+    // No costs are turned twice.
+    fn remote_to(&self, _rise: usize, _count: usize) -> Remote {
+        Remote { rise: 0, least: 0 }
     }
 
     fn least_by(&self, rise: usize, later: usize, kind: Kind) -> u32 {

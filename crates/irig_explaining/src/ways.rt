@@ -9,7 +9,7 @@ use crate::claim::{Claim, Kind};
 use crate::costs::Costs;
 use crate::near::Near;
 use crate::nodes::Node;
-use crate::opening::least_from;
+use crate::opening::{first_open, least_from};
 use crate::rises::Rises;
 
 /// A way to a claim.
@@ -55,7 +55,7 @@ pub fn cheapest<C: Costs>(
     ensures { IsLeast (C.price costs.now) rises nodes.now to.rise to.element result }
 {
     let mut best = Way::first(rises, to.rise as usize);
-    for from in near.start..near.end {
+    for from in first_open(costs, nodes, near, to.rise as usize, top)..near.end {
         best = offer(costs, nodes[from], from, to, top, best);
     }
     best

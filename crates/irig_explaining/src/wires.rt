@@ -5,7 +5,7 @@ ghost use Rattle.std.specs.List.{count_by};
 ghost use Rattle.std.specs.List.Sorted.{IsNonDecreasingBy};
 ghost use Rattle.irig_explaining.specs.Looks.{Fits, IsTimely};
 ghost use Rattle.irig_explaining.specs.Distances.{gone, rise_at};
-ghost use Rattle.irig_explaining.specs.Wires.{between, element, near, passed};
+ghost use Rattle.irig_explaining.specs.{Priced.role_at, Wires.between, Wires.element, Wires.near, Wires.passed};
 ghost use Rattle.irig_explaining.specs.Wires.{stretch, wire, wire_end};
 
 use crate::looks::{count_inside, extra, high_inside};
@@ -31,6 +31,16 @@ fn count_after(moment: u64, pulses: &[Pulse]) -> u64
 }
 
 impl<'a> Prices<'a> {
+    pub(crate) fn role_at(&self, element: usize) -> Role
+        ensures { result ≡ role_at self.now element }
+    {
+        if element < self.roles.len() {
+            self.roles[element]
+        } else {
+            Role::Unused
+        }
+    }
+
     /// The pulses from a rise on that an element can have: with twelve it looks like nothing.
     fn near(&self, rise: usize) -> &[Pulse]
         requires { rise < length self.now.pulses.now }

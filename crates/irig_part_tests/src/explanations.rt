@@ -4,7 +4,7 @@ ghost use Rattle.std.specs.Prelude.{Bool, ◌≡◌, ◌^◌, ◌≤◌};
 ghost use Rattle.irig_part_tests.specs.Looks.{kind_price, look_place, look_price};
 
 use irig_explaining::{
-    Asked, Claim, Costs, Explanation, Kind, Places, Reach, Rises, Tables, explain,
+    Asked, Claim, Costs, Explanation, Kind, Places, Reach, Remote, Rises, Tables, explain,
 };
 use std::alloc::{AllocError, Global};
 use std::process::Abort;
@@ -65,6 +65,14 @@ impl Costs for Looks {
     // A step to the next rise and element costs nothing.
     fn least(&self, _rise: usize, _later: usize, _enough: u64) -> u32 {
         0
+    }
+
+    fn remote_from(&self, _later: usize) -> Remote {
+        Remote { rise: 0, least: 0 }
+    }
+
+    fn remote_to(&self, _rise: usize, _count: usize) -> Remote {
+        Remote { rise: 0, least: 0 }
     }
 
     fn least_by(&self, _rise: usize, _later: usize, kind: Kind) -> u32 {

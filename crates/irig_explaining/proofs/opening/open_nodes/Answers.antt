@@ -1,4 +1,4 @@
-use Rattle.std.proofs.Common.{◌<◌, length, get_or, arith}
+use Rattle.std.proofs.Common.{◌<◌, length, get_or, inr, arith}
 use Rattle.std.proofs.lemmas.Option.{slice_get-get_or}
 use Rattle.irig_explaining.proofs.{Members.no_node, Opens.closed_more, Opens.opened_more}
 use Rattle.irig_explaining.proofs.opening.open_nodes.Goals as goal
@@ -7,7 +7,7 @@ use Rattle.irig_explaining.proofs.opening.open_nodes.Goals.{then-least-top+in_ok
 pub loop-from-init : goal.loop-from-init
 loop-from-init g c = rw c.new-opens.ensures.items (record {
   each = λ i d lt. absurd (omega arith);
-  others = λ u m at le lt. absurd (omega arith);
+  others = λ u m at le lt. inr (λ f k. c.first_open-from.ensures.others u f m k at le lt);
 })
 
 pub loop-from-preserved : goal.loop-from-preserved
@@ -23,7 +23,7 @@ loop-from-preserved g c =
           (record {
             node = get_or nodes i no_node;
             at = rw w.opened.ensures.from at;
-            within = record { later = c.requires.near.later i _ at (omega arith); near = c.requires.near.near i _ at (omega arith) };
+            within = record { later = c.requires.near.later i _ at (omega arith); near = c.requires.near.near i _ at (omega (arith, c.first_open-from.ensures.start)) };
             fits = w.opened.ensures.fits;
             reach = w.opened.ensures.reach;
             least = w.opened.ensures.least;

@@ -8,7 +8,9 @@ use Rattle.irig_explaining.proofs.ways.cheapest.Goals as goal
 pub loop-from-init : goal.loop-from-init
 loop-from-init g c = record {
   first = omega (arith, c.first-best.ensures.cost);
-  steps = λ u m k lt at w low. let near = c.requires.near.all u m at w.later w.near in absurd (omega (arith, near.0));
+  steps = λ u m k lt at w low.
+      let near = c.requires.near.all u m at w.later w.near in
+      let above = c.first_open-from.ensures.others u c.args.to.element m k at near.0 lt in absurd (omega (arith, above, low));
   backed = rw c.first-best.ensures.from c.first-best.ensures.cost;
 }
 
@@ -21,7 +23,7 @@ loop-from-preserved g c =
       first = omega (arith, c.offer-best.ensures.kept, c.loop-from.invariant.first);
       steps = steps_more _ c.args.rises nodes i c.args.to _ c.loop-from.best c.offer-best.result c.loop-from.invariant.steps c.offer-best.ensures;
       backed = backed_more _ c.args.rises nodes i c.args.to _ c.loop-from.best c.offer-best.result _ at
-          (record { later = c.requires.near.later i _ at (omega arith); near = c.requires.near.near i _ at (omega arith) })
+          (record { later = c.requires.near.later i _ at (omega arith); near = c.requires.near.near i _ at (omega (arith, c.first_open-from.ensures.start)) })
           c.loop-from.invariant.backed c.offer-best.ensures;
     }
 
