@@ -23,7 +23,10 @@ loop-from-preserved g c =
           (record {
             node = get_or nodes i no_node;
             at = rw w.opened.ensures.from at;
-            within = record { later = c.requires.near.later i _ at (omega arith); near = c.requires.near.near i _ at (omega (arith, c.first_open-from.ensures.start)) };
+            within = record {
+              later = c.requires.near.later i _ at (omega arith);
+              near = c.requires.near.near i _ at (omega (arith, c.first_open-from.ensures.start));
+            };
             fits = w.opened.ensures.fits;
             reach = w.opened.ensures.reach;
             least = w.opened.ensures.least;
