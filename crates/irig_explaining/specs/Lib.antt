@@ -23,3 +23,4 @@ pub mod Priced
 pub mod Labels
 pub mod Recorded
 pub mod Damage
+pub mod Between

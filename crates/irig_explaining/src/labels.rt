@@ -11,7 +11,7 @@ use crate::table::PART;
 
 impl<'a> Prices<'a> {
     /// A rise, in microseconds; 0 if there is none of that number.
-    fn moment(&self, rise: usize) -> u64
+    pub fn moment(&self, rise: usize) -> u64
         ensures exact { result ≡ rise_at self.now rise }
         ensures early { result ≤ 2 ^ 40 }
     {

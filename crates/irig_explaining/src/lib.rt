@@ -2,6 +2,7 @@
 #![tactic(auto)]
 
 mod asked;
+mod between;
 mod bounds;
 mod claim;
 mod clock;

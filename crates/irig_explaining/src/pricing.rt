@@ -28,7 +28,7 @@ pub(crate) fn ahead(size: u64, element: u64, other: u64) -> u64
 }
 
 /// The number of elements that leads as far ahead, if it is at most five from what the clock says.
-fn counted(size: u64, ahead: u64, gone: u64) -> Option<u64>
+pub(crate) fn counted(size: u64, ahead: u64, gone: u64) -> Option<u64>
     requires some { 0 < size }
     requires few { size ≤ 2 ^ 31 }
     requires within { ahead < size }
