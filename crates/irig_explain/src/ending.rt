@@ -1,0 +1,18 @@
+//! How the program ends.
+
+use crate::chosen::OptionFault;
+use irig_files::TrackFault;
+use irig_words::UsageFault;
+
+/// How the program ends, before it is reported.
+#[derive(Drop)]
+pub enum Ending<'a> {
+    Usage(UsageFault<OptionFault>),
+    /// The track at this path was not read.
+    Unread(&'a str, TrackFault),
+    /// The listing was printed; whether nothing happened.
+    Listed(bool),
+    /// Memory ran out, and nothing was printed.
+    OutOfMemory,
+    Unprinted,
+}
