@@ -12,11 +12,12 @@ impl<'a> Prices<'a> {
     pub fn count_between(&self, from: Claim, to: Claim) -> Option<u64>
         ensures { result ≡ count_between self.now from to }
     {
-        if to.rise <= from.rise || self.pulses.len() <= to.rise {
+        let (rise, later) = (from.rise as usize, to.rise as usize);
+        if later <= rise || self.pulses.len() <= later {
             return None;
         }
         let size = self.roles.len() as u64;
         let ahead = ahead(size, from.element as u64, to.element as u64);
-        counted(size, ahead, self.gone(from.rise, to.rise))
+        counted(size, ahead, self.gone(rise, later))
     }
 }
