@@ -50,8 +50,8 @@ def spans(law: Law) -> Set[Span]:
 
 
 class Safety:
-    """What a recording says, and whether a result says the same. `others` are recordings of the same code; what a script moves is told by
-    `moves`."""
+    """What a recording says, and whether a result says the same. `others` are recordings of the same code; `moves` is what a
+    script moves."""
 
     def __init__(self, opened: machine.State, others: Sequence[machine.State] = ()) -> None:
         self.opened, self.interval = opened, opened.interval()

@@ -11,7 +11,7 @@ FAR = 5  # hundredths of an interval: a width that is further off its class says
 
 
 class Move(NamedTuple):
-    """The pulses from a moment up to another one were recorded so many microseconds later than the code has them."""
+    """The pulses from a moment up to another one were recorded that many microseconds later than the code has them."""
 
     begin: int
     end: int
