@@ -13,7 +13,7 @@ pub record IsChosen (a : RawValues) (c : Chosen) : Type 0 where
   pub wire : c.wire ≡ a.wire
   pub window : IsWindow (given a.from) (given a.to) c.window
   pub format : IsFormat (given a.format) (given a.expression) c.format
-  pub quick : c.quick ≡ a.quick
+  pub sure : c.sure ≡ a.sure
   pub json : c.json ≡ a.json
 
 -- this option has a value that it cannot have

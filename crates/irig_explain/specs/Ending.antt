@@ -1,6 +1,6 @@
 -- What the program does for the words of its command line: from a file to the listing that is
 -- printed. This project's own.
-use Rattle.std.specs.Prelude.{◌≡◌, ℕ, List, Option, Ok, Err}
+use Rattle.std.specs.Prelude.{◌≡◌, ℕ, List, Option, Ok, Err, not}
 use Rattle.std.specs.Io.KnownBytes.{Appends}
 use Rattle.clap.specs.Words.{Text}
 use Rattle.irig_files.specs.Tracks.{HasFaultBy, SaysBy, Unreadable, name_in}
@@ -19,15 +19,15 @@ use Rattle.irig_explain.specs.declared.ending.Ending.TheVariants.{OutOfMemory, U
 abbrev pub Held : Type 0
 Held = List ℕ → Option (List ℕ)
 
--- just the text of the listing was printed; or nothing, if memory ran out; or a front of it, if the
+-- just the text of the listing was printed, with margins if they are asked for; or nothing, if memory ran out; or a front of it, if the
 -- output failed
 abbrev pub Lists : Chosen → List ℕ → Option (List ℕ) → Option (List ℕ) → Ending → Type 0
 Lists chosen edges old new (Listed quiet) =
-    (parts : List Part) × IsListing chosen.format edges chosen.quick parts
+    (parts : List Part) × IsListing chosen.format edges (not chosen.sure) parts
     × Appends old new (texts chosen.json parts) × (quiet ≡ is_quiet parts)
 Lists chosen edges old new OutOfMemory = new ≡ old
 Lists chosen edges old new Unprinted =
-    (parts : List Part) × IsListing chosen.format edges chosen.quick parts
+    (parts : List Part) × IsListing chosen.format edges (not chosen.sure) parts
     × AppendsFront old new (texts chosen.json parts)
 Lists chosen edges old new _ = ⊥
 

@@ -5,13 +5,13 @@ use Rattle.clap.specs.Words.{Text}
 
 abbrev pub help_text : List ℕ
 help_text = codes "Usage: irig_explain [OPTIONS] <TRACK>\n\nArguments:\n"
-    ++ codes "  <TRACK>  the dump; 10 million pulses take 90 seconds and 700 MB\n\nOptions:\n"
+    ++ codes "  <TRACK>  the dump; 10 million pulses take a minute and 700 MB\n\nOptions:\n"
     ++ codes "      --wire <NAME>          the wire of the dump\n"
     ++ codes "      --from <TIME>          in microseconds, is the new 0: 0\n"
     ++ codes "      --to <TIME>            in microseconds, ends the part that is read\n"
     ++ codes "      --format <FORMAT>      A, B, E or G: B\n"
     ++ codes "      --expression <NUMBER>  of the format: 2\n"
-    ++ codes "      --quick                no margins: in two thirds of the time\n"
+    ++ codes "      --sure                 how sure that is: can take minutes for each line\n"
     ++ codes "      --json                 an object of JSON for each line\n"
     ++ codes "      --version              says which tool prints the version\n"
     ++ codes "  -h, --help                 Print help\n"

@@ -8,7 +8,7 @@ abbrev pub the_rules : List Rule
 the_rules =
     option (codes "wire") None ∷ option (codes "from") None ∷ option (codes "to") None
     ∷ option (codes "format") None ∷ option (codes "expression") None
-    ∷ flag (codes "quick") ∷ flag (codes "json") ∷ needed (codes "TRACK") ∷ []
+    ∷ flag (codes "sure") ∷ flag (codes "json") ∷ needed (codes "TRACK") ∷ []
 
 -- the command line of the program
 abbrev pub the_command : App

@@ -24,7 +24,7 @@ pub record AreValues (f : Found) (a : RawValues) : Type 0 where
   pub to : first_value f (codes "to") ≡ option_map (λ w. w.now) a.to
   pub format : first_value f (codes "format") ≡ option_map (λ w. w.now) a.format
   pub expression : first_value f (codes "expression") ≡ option_map (λ w. w.now) a.expression
-  pub quick : IsFlag f (codes "quick") a.quick
+  pub sure : IsFlag f (codes "sure") a.sure
   pub json : IsFlag f (codes "json") a.json
 
 -- what the words ask for, or why they ask for nothing

@@ -13,8 +13,8 @@ pub struct Chosen<'a> {
     /// The window of the dump that is read, if not all is.
     pub window: Option<Window>,
     pub format: Format,
-    /// Whether margins are left out.
-    pub quick: bool,
+    /// Whether each happening has its margin.
+    pub sure: bool,
     pub json: bool,
 }
 

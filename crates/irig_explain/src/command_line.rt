@@ -20,7 +20,7 @@ static ARGUMENTS: [Argument<'static>; 8] = [
     Argument::Valued("to", "TIME"),
     Argument::Valued("format", "FORMAT"),
     Argument::Valued("expression", "NUMBER"),
-    Argument::Flag("quick"),
+    Argument::Flag("sure"),
     Argument::Flag("json"),
     Argument::Needed("TRACK"),
 ];
@@ -73,7 +73,7 @@ fn raw_of<'a>(track: &'a str, matches: &ArgMatches<'a>) -> RawValues<'a>
         to: matches.get_str("to"),
         format: matches.get_str("format"),
         expression: matches.get_str("expression"),
-        quick: matches.get_flag("quick"),
+        sure: matches.get_flag("sure"),
         json: matches.get_flag("json"),
     }
 }

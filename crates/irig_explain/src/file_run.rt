@@ -37,7 +37,7 @@ fn explain_track<'a, W: Write>(
 ) -> Ending<'a>
     ensures { Lists chosen.now recording.edges (W.contents out.old) (W.contents out.new) result }
 {
-    let Ok(parts) = happenings(alloc, chosen.format, chosen.quick, recording) else {
+    let Ok(parts) = happenings(alloc, chosen.format, !chosen.sure, recording) else {
         return Ending::OutOfMemory;
     };
     let Ok(text) = text_of(alloc, chosen.json, parts.as_slice()) else {

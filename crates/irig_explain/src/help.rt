@@ -22,13 +22,13 @@ fn help_text<'a>() -> &'a str
     ensures { result.now ≡ help_text }
 {
     "Usage: irig_explain [OPTIONS] <TRACK>\n\nArguments:\n  \
-     <TRACK>  the dump; 10 million pulses take 90 seconds and 700 MB\n\nOptions:\n      \
+     <TRACK>  the dump; 10 million pulses take a minute and 700 MB\n\nOptions:\n      \
      --wire <NAME>          the wire of the dump\n      \
      --from <TIME>          in microseconds, is the new 0: 0\n      \
      --to <TIME>            in microseconds, ends the part that is read\n      \
      --format <FORMAT>      A, B, E or G: B\n      \
      --expression <NUMBER>  of the format: 2\n      \
-     --quick                no margins: in two thirds of the time\n      \
+     --sure                 how sure that is: can take minutes for each line\n      \
      --json                 an object of JSON for each line\n      \
      --version              says which tool prints the version\n  \
      -h, --help                 Print help\n"

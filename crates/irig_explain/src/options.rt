@@ -21,7 +21,7 @@ pub fn chosen_of<'a>(raw: &RawValues<'a>) -> Result<Chosen<'a>, OptionFault>
             wire: raw.wire,
             window,
             format,
-            quick: raw.quick,
+            sure: raw.sure,
             json: raw.json,
         }),
         Err(fault) => Err(OptionFault::Format(fault)),

@@ -9,6 +9,6 @@ pub struct RawValues<'a> {
     pub to: Option<&'a str>,
     pub format: Option<&'a str>,
     pub expression: Option<&'a str>,
-    pub quick: bool,
+    pub sure: bool,
     pub json: bool,
 }
