@@ -80,7 +80,8 @@ def noises(prices, claims):
     """The rises before the first claim and after the last one."""
     last = len(prices.rises) - 1
     ends = [(0, claims[0].rise, claims[0].rise), (claims[-1].rise, last, last - claims[-1].rise)] if claims else [(0, last, last + 1)]
-    return [{"begin": prices.rises[one], "end": prices.rises[other], "what": "noise", "noise": count} for one, other, count in ends if count]
+    return [{"begin": prices.rises[one], "end": prices.rises[other], "what": "noise", "noise": count}
+            for one, other, count in ends if count]
 
 
 def plain(line):

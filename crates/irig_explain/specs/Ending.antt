@@ -19,8 +19,8 @@ use Rattle.irig_explain.specs.declared.ending.Ending.TheVariants.{OutOfMemory, U
 abbrev pub Held : Type 0
 Held = List ℕ → Option (List ℕ)
 
--- just the text of the listing was printed, with margins if they are asked for; or nothing, if memory ran out; or a front of it, if the
--- output failed
+-- just the text of the listing was printed, with margins if they are asked for; or nothing, if
+-- memory ran out; or a front of it, if the output failed
 abbrev pub Lists : Chosen → List ℕ → Option (List ℕ) → Option (List ℕ) → Ending → Type 0
 Lists chosen edges old new (Listed quiet) =
     (parts : List Part) × IsListing chosen.format edges (not chosen.sure) parts
