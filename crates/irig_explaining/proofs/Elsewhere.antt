@@ -1,9 +1,9 @@
 -- The least cost of a step that gives an interval another place, as loops find it.
 use Rattle.std.proofs.Common.{◌≡◌, ◌+◌, ◌-◌, ◌<◌, ◌≤◌, ◌⊎◌, ℕ, List, sym, subst, inl, inr, arith}
-use Rattle.irig_explaining.specs.declared.{asked.Asked.Asked, rises.Rises.Rises, nodes.Node.Node}
+use Rattle.irig_explaining.specs.declared.{asked.Asked.Asked, claim.Kind.Kind, rises.Rises.Rises, nodes.Node.Node}
 use Rattle.irig_explaining.specs.Bounds.{Elsewhere, ElsewhereBetween, IsOver, Steps}
 use Rattle.std.specs.List.{Contains}
-use Rattle.irig_explaining.specs.{Explanation.Price, Nodes.AreNodes, Nodes.IsCost, Turned.turned, Ways.OtherKind, Ways.OtherWay}
+use Rattle.irig_explaining.specs.{Explanation.Price, Nodes.AreNodes, Nodes.IsCost, Turned.AreTables, Turned.turned, Ways.OtherKind, Ways.OtherWay}
 use Rattle.irig_explaining.proofs.ReadBack.{below_cost}
 
 -- no steps have been looked at yet
@@ -33,25 +33,60 @@ elsewhere_all price place rises before after a old all bound so_far each = recor
   least = λ r e q f k x y step over unlike start end. so_far.least r e q f k x y (each r e q f over step) over unlike start end;
 }
 
--- those between two claims
+-- no claim of a rise costs less than its cheapest node
+node_low : (price : Price) (rises : Rises) (nodes : List Node) (r e x low : ℕ) → AreNodes price rises rises.count nodes → r < rises.count
+    → e < rises.states → ((n : Node) → Contains nodes n → n.rise ≡ r → low ≤ n.cost) → IsCost price rises nodes r e x → low ≤ x
+node_low price rises nodes r e x low are there small least costs =
+    let known = are.known r e there small in
+    let cheap = below_cost price rises nodes r e known.costs.way.cost x known.costs.is.low costs in
+    omega (arith, cheap, known.costs.exact, known.cheap, least known.node known.there known.beside)
+
+-- the least cost of a claim is one
+same_cost : (price : Price) (rises : Rises) (nodes : List Node) (r e x y : ℕ) → IsCost price rises nodes r e x → IsCost price rises nodes r e y
+    → x ≤ y
+same_cost price rises nodes r e x y one other =
+    omega (arith, below_cost price rises nodes r e one.way.cost y one.is.low other, one.exact)
+
+-- those between two claims: no more is spent than what comes before and after these
+between : (price place : Price) (rises : Rises) (before after : List Node) (a : Asked) (r e q f spent low bound : ℕ)
+    → ((x y : ℕ) → IsCost price rises before r e x → IsCost (turned price rises.count) rises after (rises.count - 1 - q) f y → spent ≤ x + y)
+    → ElsewhereBetween price place a spent r e q f low → bound ≤ low
+    → Elsewhere price place rises before after a (λ r2 e2 q2 f2. (r2 ≡ r) × (e2 ≡ e) × (q2 ≡ q) × (f2 ≡ f)) bound
+between price place rises before after a r e q f spent low bound paid is le = record {
+  least = λ r2 e2 q2 f2 k x y step over unlike start2 end2.
+      let er = sym step.0 in let ee = sym step.1 in let eq = sym step.2 in let ef = sym step.3 in
+      let here : ElsewhereBetween price place a spent r2 e2 q2 f2 low = subst (λ n. ElsewhereBetween price place a spent n e2 q2 f2 low) er
+      (subst (λ n. ElsewhereBetween price place a spent r n q2 f2 low) ee
+      (subst (λ n. ElsewhereBetween price place a spent r e n f2 low) eq
+      (subst (λ n. ElsewhereBetween price place a spent r e q n low) ef is))) in
+      let start = subst (λ n. IsCost price rises before r n x) step.1 (subst (λ n. IsCost price rises before n e2 x) step.0 start2) in
+      let end = subst (λ n. IsCost (turned price rises.count) rises after (rises.count - 1 - q) n y) step.3
+      (subst (λ n. IsCost (turned price rises.count) rises after (rises.count - 1 - n) f2 y) step.2 end2) in
+      omega (arith, here.least k unlike, paid x y start end, le);
+}
+
 pub elsewhere_between : (price place : Price) (rises : Rises) (before after : List Node) (a : Asked) (r e q f x y spent bound : ℕ)
     → IsCost price rises before r e x → IsCost (turned price rises.count) rises after (rises.count - 1 - q) f y → spent ≡ x + y
     → ElsewhereBetween price place a spent r e q f bound
     → Elsewhere price place rises before after a (λ r2 e2 q2 f2. (r2 ≡ r) × (e2 ≡ e) × (q2 ≡ q) × (f2 ≡ f)) bound
-elsewhere_between price place rises before after a r e q f x y spent bound start end paid between = record {
-  least = λ r2 e2 q2 f2 k x2 y2 step over unlike start2 end2.
-      let er = sym step.0 in let ee = sym step.1 in let eq = sym step.2 in let ef = sym step.3 in
-      let here : ElsewhereBetween price place a spent r2 e2 q2 f2 bound = subst (λ n. ElsewhereBetween price place a spent n e2 q2 f2 bound) er
-      (subst (λ n. ElsewhereBetween price place a spent r n q2 f2 bound) ee
-      (subst (λ n. ElsewhereBetween price place a spent r e n f2 bound) eq
-      (subst (λ n. ElsewhereBetween price place a spent r e q n bound) ef between))) in
-      let low = subst (λ n. IsCost price rises before n e2 x) er (subst (λ n. IsCost price rises before r n x) ee start) in
-      let low2 = subst (λ n. IsCost (turned price rises.count) rises after (rises.count - 1 - n) f2 y) eq
-      (subst (λ n. IsCost (turned price rises.count) rises after (rises.count - 1 - q) n y) ef end) in
-      let le = below_cost price rises before r2 e2 low.way.cost x2 low.is.low start2 in
-      let le2 = below_cost (turned price rises.count) rises after (rises.count - 1 - q2) f2 low2.way.cost y2 low2.is.low end2 in
-      omega (arith, here.least k unlike, paid, le, le2, low.exact, low2.exact);
-}
+elsewhere_between price place rises before after a r e q f x y spent bound start end paid is =
+    between price place rises before after a r e q f spent bound bound
+    (λ x2 y2 start2 end2. let le = same_cost price rises before r e x x2 start start2 in
+    let le2 = same_cost (turned price rises.count) rises after (rises.count - 1 - q) f y y2 end end2 in omega (arith, paid, le, le2))
+    is (omega arith)
+
+-- none of them is cheaper, if none is with the cheapest node of the first rise
+pub elsewhere_low : (price place : Price) (rises : Rises) (before after : List Node) (a : Asked) (r e q f start y low bound : ℕ)
+    → AreNodes price rises rises.count before → r < rises.count → e < rises.states
+    → ((n : Node) → Contains before n → n.rise ≡ r → start ≤ n.cost)
+    → IsCost (turned price rises.count) rises after (rises.count - 1 - q) f y
+    → ElsewhereBetween price place a (start + y) r e q f low → bound ≤ low
+    → Elsewhere price place rises before after a (λ r2 e2 q2 f2. (r2 ≡ r) × (e2 ≡ e) × (q2 ≡ q) × (f2 ≡ f)) bound
+elsewhere_low price place rises before after a r e q f start y low bound are there small least end is le =
+    between price place rises before after a r e q f (start + y) low bound
+    (λ x y2 start2 end2. let cheap = node_low price rises before r e x start are there small least start2 in
+    let le2 = same_cost (turned price rises.count) rises after (rises.count - 1 - q) f y y2 end end2 in omega (arith, cheap, le2))
+    is le
 
 -- and one of them
 pub other_between : (price place : Price) (rises : Rises) (before after : List Node) (a : Asked) (r e q f x y spent total : ℕ)
@@ -72,30 +107,34 @@ other_between price place rises before after a r e q f x y spent total over star
   exact = omega (arith, other.exact, paid);
 }
 
--- none of them, if what comes after costs as much
-pub elsewhere_after : (price place : Price) (rises : Rises) (before after : List Node) (a : Asked) (q f y bound : ℕ)
-    → IsCost (turned price rises.count) rises after (rises.count - 1 - q) f y → bound ≤ y
-    → Elsewhere price place rises before after a (λ r2 e2 q2 f2. (q2 ≡ q) × (f2 ≡ f)) bound
-elsewhere_after price place rises before after a q f y bound end le = record {
-  least = λ r2 e2 q2 f2 k x2 y2 step over unlike start2 end2.
-      let low = subst (λ n. IsCost (turned price rises.count) rises after (rises.count - 1 - n) f2 y) (sym step.0)
-      (subst (λ n. IsCost (turned price rises.count) rises after (rises.count - 1 - q) n y) (sym step.1) end) in
-      let le2 = below_cost (turned price rises.count) rises after (rises.count - 1 - q2) f2 low.way.cost y2 low.is.low end2 in
-      omega (arith, le, le2, low.exact);
-}
-
--- nor of those from a rise, if it does with the cheapest claim of that
+-- none of those from a rise, if what comes after costs as much, with the cheapest node of the rise
 pub elsewhere_from : (price place : Price) (rises : Rises) (before after : List Node) (a : Asked) (r q f low y bound : ℕ)
     → AreNodes price rises rises.count before → r < rises.count → ((n : Node) → Contains before n → n.rise ≡ r → low ≤ n.cost)
     → IsCost (turned price rises.count) rises after (rises.count - 1 - q) f y → bound ≤ low + y
     → Elsewhere price place rises before after a (λ r2 e2 q2 f2. (r2 ≡ r) × (q2 ≡ q) × (f2 ≡ f)) bound
 elsewhere_from price place rises before after a r q f low y bound are there least end le = record {
   least = λ r2 e2 q2 f2 k x2 y2 step over unlike start2 end2.
-      let known = are.known r e2 there over.start in
       let start = subst (λ n. IsCost price rises before n e2 x2) step.0 start2 in
-      let cheap = below_cost price rises before r e2 known.costs.way.cost x2 known.costs.is.low start in
-      let after2 = subst (λ n. IsCost (turned price rises.count) rises after (rises.count - 1 - n) f2 y) (sym step.1)
-      (subst (λ n. IsCost (turned price rises.count) rises after (rises.count - 1 - q) n y) (sym step.2) end) in
-      let le2 = below_cost (turned price rises.count) rises after (rises.count - 1 - q2) f2 after2.way.cost y2 after2.is.low end2 in
-      omega (arith, le, le2, after2.exact, cheap, known.costs.exact, known.cheap, least known.node known.there known.beside);
+      let end2 = subst (λ n. IsCost (turned price rises.count) rises after (rises.count - 1 - q) n y2) step.2
+      (subst (λ n. IsCost (turned price rises.count) rises after (rises.count - 1 - n) f2 y2) step.1 end2) in
+      let cheap = node_low price rises before r e2 x2 low are there over.start least start in
+      let le2 = same_cost (turned price rises.count) rises after (rises.count - 1 - q) f y y2 end end2 in
+      omega (arith, le, le2, cheap);
+}
+
+-- none of those between two rises, if the cheapest nodes of both and any step between them cost as much
+pub elsewhere_rises : (price place : Price) (rises : Rises) (before after : List Node) (a : Asked) (r q low low2 paid bound : ℕ)
+    → AreTables price rises before after → r < rises.count → q < rises.count
+    → ((n : Node) → Contains before n → n.rise ≡ r → low ≤ n.cost)
+    → ((n : Node) → Contains after n → n.rise ≡ rises.count - 1 - q → low2 ≤ n.cost)
+    → ((e f : ℕ) (k : Kind) → paid ≤ price r e q f k) → bound ≤ low + low2 + paid
+    → Elsewhere price place rises before after a (λ r2 e2 q2 f2. (r2 ≡ r) × (q2 ≡ q)) bound
+elsewhere_rises price place rises before after a r q low low2 paid bound are there there2 least least2 each le = record {
+  least = λ r2 e2 q2 f2 k x y step over unlike start2 end2.
+      let start = subst (λ n. IsCost price rises before n e2 x) step.0 start2 in
+      let end = subst (λ n. IsCost (turned price rises.count) rises after (rises.count - 1 - n) f2 y) step.1 end2 in
+      let cheap = node_low price rises before r e2 x low are.before_least there over.start least start in
+      let cheap2 = node_low (turned price rises.count) rises after (rises.count - 1 - q) f2 y low2 are.after_least (omega arith) over.end least2 end in
+      let cost = subst (λ n. paid ≤ price n e2 q2 f2 k) (sym step.0) (subst (λ n. paid ≤ price r e2 n f2 k) (sym step.1) (each e2 f2 k)) in
+      omega (arith, le, cheap, cheap2, cost);
 }

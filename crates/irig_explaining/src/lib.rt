@@ -5,6 +5,7 @@ mod asked;
 mod between;
 mod bounds;
 mod claim;
+mod claim_costs;
 mod clock;
 mod costs;
 mod distance;

@@ -1,22 +1,20 @@
 //! The least costs of explanations with a step over an interval that gives it another place.
 
-ghost use Rattle.std.specs.Prelude.{◌≡◌, ◌+◌, ◌-◌, ◌^◌, ◌<◌, ◌≤◌, ◌⊎◌};
+ghost use Rattle.std.specs.Prelude.{◌≡◌, ◌+◌, ◌-◌, ◌^◌, ◌<◌, ◌≤◌, ◌⊎◌, Contains};
 ghost use Rattle.irig_explaining.specs.Bounds.{Elsewhere};
-ghost use Rattle.irig_explaining.specs.Near.{IsNear};
 ghost use Rattle.irig_explaining.specs.{Nodes.IsCost, Turned.AreTables, Turned.turned, Ways.OtherWay};
+ghost use Rattle.irig_explaining.specs.declared.nodes.Node.{Node};
 
 use crate::asked::Asked;
 use crate::bounds::with_step;
 use crate::claim::{Claim, Kind};
 use crate::costs::{Costs, Places};
-use crate::lowest::lowest_of;
-use crate::near::{Near, nodes_near};
 use crate::tables::Tables;
-use crate::turned::Turned;
-use crate::ways::cost_of;
 
 impl<'a, C: Costs + Places> Tables<'a, C> {
     /// The least of a cost, and those with a step over the interval that gives it another place.
+    /// The nearest rises come first: steps between them cost the least, and the others are left out
+    /// if they cannot cost less.
     pub(crate) fn with_steps(&self, asked: Asked, best: u64) -> u64
         requires few { self.now.rises.count ≤ 2 ^ 30 }
         requires full { AreTables (C.price self.now.costs.now) self.now.rises
@@ -39,66 +37,70 @@ impl<'a, C: Costs + Places> Tables<'a, C> {
     }
 
     /// The same for the steps to a rise.
-    fn with_steps_to_rise(&self, rise: usize, asked: Asked, best: u64) -> u64
+    fn with_steps_to_rise(&self, later: usize, asked: Asked, best: u64) -> u64
         requires few { self.now.rises.count ≤ 2 ^ 30 }
         requires full { AreTables (C.price self.now.costs.now) self.now.rises
             self.now.before.items self.now.after.items }
-        requires late { asked.interval < rise }
-        requires there { rise < self.now.rises.count }
+        requires late { asked.interval < later }
+        requires there { later < self.now.rises.count }
         ensures kept { result ≤ best }
         ensures least { Elsewhere (C.price self.now.costs.now) (C.place self.now.costs.now)
             self.now.rises self.now.before.items self.now.after.items asked
-            (λ r e q f. q ≡ rise) result }
+            (λ r e q f. q ≡ later) result }
         ensures origin { (result ≡ best)
             ⊎ OtherWay (C.price self.now.costs.now) (C.place self.now.costs.now)
             self.now.rises self.now.before.items self.now.after.items asked result }
     {
+        let first = later.saturating_sub(self.rises.window);
+        let count = (asked.interval + 1).saturating_sub(first);
         let mut least = best;
-        for element in 0..self.rises.states {
-            let to = Claim {
-                rise: rise as u32,
-                element,
-                kind: Kind::Next,
-            };
-            least = self.with_steps_to(to, asked, least);
+        for back in 0..count {
+            least = self.with_steps_between(asked.interval - back, later, asked, least);
         }
         least
     }
 
-    /// The same for the steps to a claim.
-    fn with_steps_to(&self, to: Claim, asked: Asked, best: u64) -> u64
+    /// The same for the steps between two rises.
+    fn with_steps_between(&self, rise: usize, later: usize, asked: Asked, best: u64) -> u64
         requires few { self.now.rises.count ≤ 2 ^ 30 }
         requires full { AreTables (C.price self.now.costs.now) self.now.rises
             self.now.before.items self.now.after.items }
-        requires late { asked.interval < to.rise }
-        requires there { to.rise < self.now.rises.count }
-        requires element { to.element < self.now.rises.states }
+        requires early { rise < asked.interval + 1 }
+        requires late { asked.interval < later }
+        requires there { later < self.now.rises.count }
+        requires near { later ≤ rise + self.now.rises.window }
         ensures kept { result ≤ best }
         ensures least { Elsewhere (C.price self.now.costs.now) (C.place self.now.costs.now)
             self.now.rises self.now.before.items self.now.after.items asked
-            (λ r e q f. (q ≡ to.rise) × (f ≡ to.element)) result }
+            (λ r e q f. (r ≡ rise) × (q ≡ later)) result }
         ensures origin { (result ≡ best)
             ⊎ OtherWay (C.price self.now.costs.now) (C.place self.now.costs.now)
             self.now.rises self.now.before.items self.now.after.items asked result }
     {
-        let rest = self.cost_after(to);
-        if best <= rest {
+        let start = self.lowest_before(rise);
+        let low = start + self.lowest_after(later);
+        let step = self.costs.least(rise, later, best.saturating_sub(low));
+        if best <= low + u64::from(step) {
             return best;
         }
         let mut least = best;
-        let first = (to.rise as usize).saturating_sub(self.rises.window);
-        for rise in first..asked.interval + 1 {
-            least = self.with_steps_from_rise(rise, to, rest, asked, least);
+        for element in 0..self.rises.states {
+            let to = Claim {
+                rise: later as u32,
+                element,
+                kind: Kind::Next,
+            };
+            least = self.with_steps_from_rise(rise, to, start, asked, least);
         }
         least
     }
 
-    /// The same for the steps from a rise to a claim. What comes after the claim costs `rest`.
+    /// The same for the steps from a rise to a claim. No claim of the rise costs less than `start`.
     fn with_steps_from_rise(
         &self,
         rise: usize,
         to: Claim,
-        rest: u64,
+        start: u64,
         asked: Asked,
         best: u64,
     ) -> u64
@@ -110,10 +112,9 @@ impl<'a, C: Costs + Places> Tables<'a, C> {
         requires there { to.rise < self.now.rises.count }
         requires near { to.rise ≤ rise + self.now.rises.window }
         requires element { to.element < self.now.rises.states }
-        requires rest { IsCost (turned (C.price self.now.costs.now) self.now.rises.count)
-            self.now.rises self.now.after.items (self.now.rises.count - 1 - to.rise) to.element
-            rest }
-        requires small { rest < 2 ^ 62 }
+        requires start { (n : Node) → Contains self.now.before.items n → n.rise ≡ rise
+            → start ≤ n.cost }
+        requires little { start < 2 ^ 62 }
         ensures kept { result ≤ best }
         ensures least { Elsewhere (C.price self.now.costs.now) (C.place self.now.costs.now)
             self.now.rises self.now.before.items self.now.after.items asked
@@ -122,11 +123,10 @@ impl<'a, C: Costs + Places> Tables<'a, C> {
             ⊎ OtherWay (C.price self.now.costs.now) (C.place self.now.costs.now)
             self.now.rises self.now.before.items self.now.after.items asked result }
     {
-        let low = lowest_of(self.before.as_slice(), rise, best).saturating_add(rest);
-        if best <= low {
+        let rest = self.cost_after(to);
+        if best <= start + rest {
             return best;
         }
-        let near = nodes_near(self.rises.window, self.before.as_slice(), rise);
         let mut least = best;
         for element in 0..self.rises.states {
             let from = Claim {
@@ -134,48 +134,50 @@ impl<'a, C: Costs + Places> Tables<'a, C> {
                 element,
                 kind: Kind::Next,
             };
-            let spent = self.cost_before(near, from) + rest;
-            least = with_step(self.costs, spent, from, to, asked, least);
+            least = self.with_steps_from(from, to, start, rest, asked, least);
         }
         least
     }
 
-    /// What a claim and all before it cost, at least.
-    fn cost_before(&self, near: Near, to: Claim) -> u64
+    /// The same for the steps between two claims. What comes after the second costs `rest`.
+    fn with_steps_from(
+        &self,
+        from: Claim,
+        to: Claim,
+        start: u64,
+        rest: u64,
+        asked: Asked,
+        best: u64,
+    ) -> u64
         requires few { self.now.rises.count ≤ 2 ^ 30 }
         requires full { AreTables (C.price self.now.costs.now) self.now.rises
             self.now.before.items self.now.after.items }
+        requires early { from.rise < asked.interval + 1 }
+        requires late { asked.interval < to.rise }
         requires there { to.rise < self.now.rises.count }
-        requires near { IsNear self.now.rises.window self.now.before.items to.rise near }
-        ensures cost { IsCost (C.price self.now.costs.now) self.now.rises self.now.before.items
-            to.rise to.element result }
-        ensures small { result < 2 ^ 62 }
+        requires near { to.rise ≤ from.rise + self.now.rises.window }
+        requires elements { (from.element < self.now.rises.states)
+            × (to.element < self.now.rises.states) }
+        requires start { (n : Node) → Contains self.now.before.items n → n.rise ≡ from.rise
+            → start ≤ n.cost }
+        requires little { start < 2 ^ 62 }
+        requires rest { IsCost (turned (C.price self.now.costs.now) self.now.rises.count)
+            self.now.rises self.now.after.items (self.now.rises.count - 1 - to.rise) to.element
+            rest }
+        requires small { rest < 2 ^ 62 }
+        ensures kept { result ≤ best }
+        ensures least { Elsewhere (C.price self.now.costs.now) (C.place self.now.costs.now)
+            self.now.rises self.now.before.items self.now.after.items asked
+            (λ r e q f. (r ≡ from.rise) × (e ≡ from.element) × (q ≡ to.rise)
+            × (f ≡ to.element)) result }
+        ensures origin { (result ≡ best)
+            ⊎ OtherWay (C.price self.now.costs.now) (C.place self.now.costs.now)
+            self.now.rises self.now.before.items self.now.after.items asked result }
     {
-        cost_of(self.costs, self.rises, self.before.as_slice(), near, to)
-    }
-
-    /// What comes after a claim costs, at least.
-    fn cost_after(&self, from: Claim) -> u64
-        requires few { self.now.rises.count ≤ 2 ^ 30 }
-        requires full { AreTables (C.price self.now.costs.now) self.now.rises
-            self.now.before.items self.now.after.items }
-        requires there { from.rise < self.now.rises.count }
-        ensures cost { IsCost (turned (C.price self.now.costs.now) self.now.rises.count)
-            self.now.rises self.now.after.items
-            (self.now.rises.count - 1 - from.rise) from.element result }
-        ensures small { result < 2 ^ 62 }
-    {
-        let turned = Turned {
-            costs: self.costs,
-            count: self.rises.count,
-        };
-        let to = Claim {
-            rise: (self.rises.count - 1 - from.rise as usize) as u32,
-            element: from.element,
-            kind: Kind::Next,
-        };
-        let after = self.after.as_slice();
-        let near = nodes_near(self.rises.window, after, to.rise as usize);
-        cost_of(&turned, self.rises, after, near, to)
+        if best <= with_step(self.costs, start + rest, from, to, asked, best) {
+            return best;
+        }
+        let spent = self.cost_before(from) + rest;
+        with_step(self.costs, spent, from, to, asked, best)
     }
 }

@@ -1,7 +1,7 @@
-use Rattle.std.proofs.Common.{refl, ◌≡◌, ◌⊎◌, ◌+◌, ◌<◌, ◌≤◌, ℕ, sym, subst, inl, inr, arith}
+use Rattle.std.proofs.Common.{refl, ◌≡◌, ◌⊎◌, ◌+◌, ◌<◌, ℕ, sym, subst, inl, inr, arith}
 use Rattle.std.proofs.lemmas.Bool.{cases_lt}
-use Rattle.irig_explaining.specs.{Bounds.IsOver, Ways.OtherWay}
-use Rattle.irig_explaining.proofs.Elsewhere.{elsewhere_none, elsewhere_more, elsewhere_all, elsewhere_between, elsewhere_from, other_between}
+use Rattle.irig_explaining.specs.Ways.{OtherWay}
+use Rattle.irig_explaining.proofs.Elsewhere.{elsewhere_none, elsewhere_more, elsewhere_all, elsewhere_from}
 use Rattle.irig_explaining.proofs.tables.Tables.with_steps_from_rise.Goals as goal
 
 pub loop-element-init : goal.loop-element-init
@@ -15,31 +15,16 @@ pub loop-element-preserved : goal.loop-element-preserved
 loop-element-preserved g c =
     let price = g.C.Costs.price c.args.self.now.costs.now in let place = g.C.Places.place c.args.self.now.costs.now in
     let rises = c.args.self.now.rises in let before = c.args.self.now.before.items in let after = c.args.self.now.after.items in
-    let i = c.loop-element.element in let t = c.args.rise in let q = c.args.to.rise in let f = c.args.to.element in
-    let more = c.with_step-least.ensures in let x = c.cost_before.result in let rest = c.args.rest in
-    let over : IsOver rises c.args.asked t i q f = record {
-      early = c.requires.early;
-      late = c.requires.late;
-      last = c.requires.there;
-      near = c.requires.near;
-      start = omega arith;
-      end = c.requires.element;
-    } in
-    let Q : ℕ → Type 0 = λ n. (n ≡ c.args.best) ⊎ OtherWay price place rises before after c.args.asked n in
+    let i = c.loop-element.element in let t = c.args.rise in let q2 = c.args.to.rise in let f2 = c.args.to.element in
+    let more = c.with_steps_from-least.ensures in
+    let Q : ℕ → Type 0 = λ x. (x ≡ c.args.best) ⊎ OtherWay price place rises before after c.args.asked x in
     record {
       kept = omega (arith, more.kept, c.loop-element.invariant.kept);
-      least = elsewhere_more price place rises before after c.args.asked (λ r e q2 f2. (r ≡ t) × (e < i) × (q2 ≡ q) × (f2 ≡ f))
-          (λ r e q2 f2. (r ≡ t) × (e ≡ i) × (q2 ≡ q) × (f2 ≡ f)) (λ r e q2 f2. (r ≡ t) × (e < i + 1) × (q2 ≡ q) × (f2 ≡ f))
-          c.loop-element.least _ c.loop-element.invariant.least more.kept
-          (elsewhere_between price place rises before after c.args.asked t i q f x rest (x + rest) c.with_step-least.result
-          c.cost_before.ensures.cost c.requires.rest refl more.least)
-          (λ r e q2 f2 over low. let lt = low.1 in
-          elim (cases_lt e i) [ inl less ↦ inl (low.0, less, low.2, low.3) | inr le ↦ inr (low.0, omega arith, low.2, low.3) ]);
-      origin = elim more.origin [
-        | inl same ↦ subst Q (sym same) c.loop-element.invariant.origin
-        | inr h ↦ inr (other_between price place rises before after c.args.asked t i q f x rest (x + rest) c.with_step-least.result over
-            c.cost_before.ensures.cost c.requires.rest refl h)
-      ];
+      least = elsewhere_more price place rises before after c.args.asked (λ r e q f. (r ≡ t) × (e < i) × (q ≡ q2) × (f ≡ f2))
+          (λ r e q f. (r ≡ t) × (e ≡ i) × (q ≡ q2) × (f ≡ f2)) (λ r e q f. (r ≡ t) × (e < i + 1) × (q ≡ q2) × (f ≡ f2))
+          c.loop-element.least _ c.loop-element.invariant.least more.kept more.least
+          (λ r e q f over low. let lt = low.1 in elim (cases_lt e i) [ inl less ↦ inl (low.0, less, low.2, low.3) | inr le ↦ inr (low.0, omega arith, low.2, low.3) ]);
+      origin = elim more.origin [ inl same ↦ subst Q (sym same) c.loop-element.invariant.origin | inr h ↦ inr h ];
     }
 
 pub returns-clause-least : goal.returns-clause-least
@@ -48,11 +33,11 @@ returns-clause-least g c =
     (λ r e q f. (r ≡ c.args.rise) × (q ≡ c.args.to.rise) × (f ≡ c.args.to.element)) _ c.loop-element.invariant.least
     (λ r e q f over here. let start = over.start in (here.0, omega (arith, c.loop-element-test.false), here.1, here.2))
 
-pub returns-then-best-low-clause-least : goal.returns-then-best-low-clause-least
-returns-then-best-low-clause-least g c =
-    let low = c.lowest_of.result in let rest = c.args.rest in
-    let enough : c.args.best ≤ low + rest = omega (arith, c.if-best-low.true, c.saturating_add-low.ensures) in
-    elsewhere_from (g.C.Costs.price c.args.self.now.costs.now) (g.C.Places.place c.args.self.now.costs.now) c.args.self.now.rises
-    c.args.self.now.before.items c.args.self.now.after.items c.args.asked c.args.rise c.args.to.rise c.args.to.element low rest c.args.best
-    c.requires.full.before_least (let early = c.requires.early in let late = c.requires.late in let there = c.requires.there in omega arith)
-    (rw c.as_slice.ensures.value at c.lowest_of.ensures.low) c.requires.rest enough
+pub returns-then-best-start-clause-least : goal.returns-then-best-start-clause-least
+returns-then-best-start-clause-least g c =
+    let price = g.C.Costs.price c.args.self.now.costs.now in let place = g.C.Places.place c.args.self.now.costs.now in
+    let rises = c.args.self.now.rises in let before = c.args.self.now.before.items in let after = c.args.self.now.after.items in
+    elsewhere_from price place rises before after c.args.asked c.args.rise c.args.to.rise c.args.to.element c.args.start c.cost_after-rest.result
+    c.args.best c.requires.full.before_least
+    (let early = c.requires.early in let late = c.requires.late in let there = c.requires.there in omega arith) c.requires.start
+    c.cost_after-rest.ensures.cost c.if-best-start.true
