@@ -28,7 +28,7 @@ fn help_text<'a>() -> &'a str
      --to <TIME>            in microseconds, ends the part that is read\n      \
      --format <FORMAT>      A, B, E or G: B\n      \
      --expression <NUMBER>  of the format: 2\n      \
-     --sure                 how sure that is: can take minutes for each line\n      \
+     --sure                 how sure that is: takes longer\n      \
      --json                 an object of JSON for each line\n      \
      --version              says which tool prints the version\n  \
      -h, --help                 Print help\n"
