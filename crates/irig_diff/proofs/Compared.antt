@@ -14,7 +14,7 @@ use Rattle.irig_diff.specs.declared.ending.Ending.TheVariants as ending
 if_room : (chosen : Settings) (text : List ℕ) (b a : RecordingView) (old new : Option (List ℕ)) (e : Ending) → PrintsText text b a old new e
     → PrintsIfRoom chosen text b a old new e
 if_room chosen text b a old new (ending.Compared same) p = p
-if_room chosen text b a old new ending.Unprinted p = p
+if_room chosen text b a old new (ending.Unprinted why) p = p
 if_room chosen text b a old new (ending.Usage error) p = absurd p
 if_room chosen text b a old new (ending.Unread path fault) p = absurd p
 
@@ -32,7 +32,7 @@ pub obeyed : (held : Held) (unread : Unreadable) (chosen : Settings) (b a : Reco
     → Says chosen.window (held chosen.before.now) (name_in chosen.wire) b → Says chosen.window (held chosen.after.now) (name_in chosen.wire_after) a
     → PrintsIfRoom chosen (text_between chosen.frames b a) b a old new e → Obeys held unread chosen old new e
 obeyed held unread chosen b a old new (ending.Compared same) x y p = record { before = b; after = a; of_before = x; of_after = y; printed = p.0; told = p.1 }
-obeyed held unread chosen b a old new ending.Unprinted x y p = record { before = b; after = a; of_before = x; of_after = y; printed = p }
+obeyed held unread chosen b a old new (ending.Unprinted why) x y p = record { before = b; after = a; of_before = x; of_after = y; printed = p }
 obeyed held unread chosen b a old new (ending.Usage error) x y p = absurd p
 obeyed held unread chosen b a old new (ending.Unread path fault) x y p = elim p.0 [
   | inl first ↦ (inl (inl (ap (λ z. z.now) first), p.1), p.2)
@@ -44,6 +44,6 @@ pub read_both : (held : Held) (unread : Unreadable) (chosen : Settings) (b a : R
     → Says chosen.window (held chosen.before.now) (name_in chosen.wire) b → Says chosen.window (held chosen.after.now) (name_in chosen.wire_after) a
     → FailsForItself held unread chosen e
 read_both held unread chosen b a (ending.Compared same) x y = tt
-read_both held unread chosen b a ending.Unprinted x y = tt
+read_both held unread chosen b a (ending.Unprinted why) x y = tt
 read_both held unread chosen b a (ending.Usage error) x y = tt
 read_both held unread chosen b a (ending.Unread path fault) x y = inr (b, a, x, y)

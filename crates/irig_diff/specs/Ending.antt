@@ -37,7 +37,7 @@ abbrev pub Obeys : Held → Unreadable → Settings → Option (List ℕ) → Op
 Obeys held unread chosen old new (Compared same) = Compares held chosen old new same
 Obeys held unread chosen old new (Unread path fault) =
     IsUncompared held unread chosen path.now fault × (new ≡ old)
-Obeys held unread chosen old new Unprinted = Breaks held chosen old new
+Obeys held unread chosen old new (Unprinted why) = Breaks held chosen old new
 Obeys held unread chosen old new (Usage fault) = ⊥
 
 -- the settings are those of the words, and they were obeyed; or the words have none

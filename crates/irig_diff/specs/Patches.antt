@@ -23,7 +23,7 @@ abbrev pub PrintsText : List ℕ → RecordingView → RecordingView → Option 
     → Option (List ℕ) → Ending → Type 0
 PrintsText text before after old new (Compared same) =
     Appends old new text × (same ≡ true ↔ before ≡ after)
-PrintsText text before after old new Unprinted = AppendsFront old new text
+PrintsText text before after old new (Unprinted why) = AppendsFront old new text
 PrintsText text before after old new _ = ⊥
 
 -- the same; or memory ran out for the frames of one of the tracks, and nothing was printed

@@ -1,7 +1,7 @@
 //! The command line, read by `clap`.
 
-ghost use Rattle.std.specs.Prelude.{◌≡◌, IfErr, IfOk, map, string_bytes};
-ghost use Rattle.clap.specs.Words.{HasMatchesOf, app_of, found_of};
+ghost use Rattle.std.specs.Prelude.{IfErr, IfOk, map, string_bytes};
+ghost use Rattle.clap.specs.Words.{found_of};
 ghost use Rattle.irig_diff.specs.Options.{the_command};
 ghost use Rattle.irig_diff.specs.Settings.{AreValues, Reads};
 ghost use Rattle.irig_words.specs.Errors.{MayRefuse, WantsMemory};
@@ -10,11 +10,11 @@ ghost use Rattle.irig_words.specs.Usage.{Values};
 use crate::chosen::{OptionFault, Settings};
 use crate::options::settings_of;
 use crate::raw_values::RawValues;
-use clap::{ArgMatches, Command, Error};
-use irig_words::{Argument, UsageFault, command_of, matches_of};
+use clap::{ArgMatches, Error};
+use irig_words::{Argument, UsageFault, is_on, matches_with, part_values};
 use std::alloc::{AllocError, Global};
 
-static ARGUMENTS: [Argument<'static>; 9] = [
+pub static ARGUMENTS: [Argument<'static>; 9] = [
     Argument::Valued("wire", "NAME"),
     Argument::Valued("wire-after", "NAME"),
     Argument::Valued("from", "TIME"),
@@ -49,7 +49,7 @@ fn raw_values<'a>(alloc: Global, words: &'a [String]) -> Result<RawValues<'a>, E
         (map string_bytes words.entry.now)) }
     ensures refused { IfErr result (MayRefuse the_command (map string_bytes words.entry.now)) }
 {
-    match parse_words(alloc, words) {
+    match matches_with(alloc, "irig_diff", ARGUMENTS.as_slice(), words) {
         Ok(matches) => values_of(&matches),
         Err(error) => Err(error),
     }
@@ -70,27 +70,8 @@ fn values_of<'a>(matches: &ArgMatches<'a>) -> Result<RawValues<'a>, Error>
     Ok(RawValues {
         before,
         after,
-        wire: matches.get_str("wire"),
+        part: part_values(matches),
         wire_after: matches.get_str("wire-after"),
-        from: matches.get_str("from"),
-        to: matches.get_str("to"),
-        format: matches.get_str("format"),
-        expression: matches.get_str("expression"),
-        frames: matches.get_flag("frames"),
+        frames: is_on(matches, "frames"),
     })
-}
-
-/// The matches of a command line that `clap` accepts.
-fn parse_words<'a>(alloc: Global, words: &'a [String]) -> Result<ArgMatches<'a>, Error>
-    ensures parsed { IfOk result (HasMatchesOf the_command (map string_bytes words.entry.now)) }
-    ensures refused { IfErr result (MayRefuse the_command (map string_bytes words.entry.now)) }
-{
-    matches_of(command(alloc)?, words)
-}
-
-/// The command line of the program.
-pub fn command<'a>(alloc: Global) -> Result<Command<'a>, AllocError>
-    ensures { IfOk result (λ c. app_of c ≡ the_command) }
-{
-    command_of(alloc, "irig_diff", ARGUMENTS.as_slice())
 }

@@ -127,7 +127,7 @@ fn print_commented_patch<'a, W: Write>(
 {
     match print(out, &mut CommentedPatch::between(before, after), block) {
         Ok(same) => Ending::Compared(same),
-        Err(_) => Ending::Unprinted,
+        Err(why) => Ending::Unprinted(why),
     }
 }
 
@@ -143,6 +143,6 @@ fn print_patch<'a, W: Write>(
 {
     match print(out, &mut PatchText::between(before, after), block) {
         Ok(same) => Ending::Compared(same),
-        Err(_) => Ending::Unprinted,
+        Err(why) => Ending::Unprinted(why),
     }
 }

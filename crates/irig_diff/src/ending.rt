@@ -2,6 +2,7 @@
 
 use crate::chosen::OptionFault;
 use irig_files::TrackFault;
+use irig_print::PrintFault;
 use irig_words::UsageFault;
 
 /// How the program ends, before it is reported.
@@ -13,5 +14,5 @@ pub enum Ending<'a> {
     /// The patch between the two tracks was printed.
     Compared(bool),
     /// The output failed, or memory ran out for what is printed.
-    Unprinted,
+    Unprinted(PrintFault),
 }

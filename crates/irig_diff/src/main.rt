@@ -16,40 +16,29 @@ ghost use Rattle.std.specs.Prelude.{map, string_bytes};
 ghost use Rattle.std.specs.Process.{exit_status};
 ghost use Rattle.irig_diff.specs.Statuses.{Serves};
 
-use command_line::command;
+use command_line::ARGUMENTS;
 use comparing::compare_words;
 use help::program;
-use irig_files::{FileSystem, Files, system_files};
+use irig_files::{FileSystem, Files};
+use irig_words::given;
 use statuses::report;
+use std::io;
 use std::io::Write;
 use std::process::ExitCode;
-use std::rt::Runtime;
-use std::{env, io};
 
-// Gets the files of the system and the words of the command line, and compares the tracks as
-// `start` does, which gives the status.
+// Compares the tracks as `start` does, which gives the status.
 fn main(rt: HostRuntime) -> ExitCode {
-    let Ok(files) = system_files(&rt) else {
-        return program().tell(&rt, 2, &io::Error::from(io::ErrorKind::OutOfMemory));
-    };
-    match arguments(&rt) {
+    match given(&rt) {
         // One output is for the patch, and one for the help.
-        Ok(words) => start(
+        Ok((files, words)) => start(
             &rt,
             words.as_slice(),
             &files,
             &mut io::writer(&rt),
             &mut io::writer(&rt),
         ),
-        // The command is for what `clap` says of a word that is not UTF-8.
-        Err(error) => program().tell_no_words(&rt, &error, command(rt.alloc())),
+        Err(error) => program().tell_not_given(&rt, &error, ARGUMENTS.as_slice()),
     }
-}
-
-/// The words of the command line, the program's name being the first.
-fn arguments<R: Runtime + AllocGlobal>(rt: &R) -> io::Result<Vec<String>> {
-    let words = env::args(rt)?.collect(rt.alloc())?;
-    Ok(words)
 }
 
 /// Compares the tracks that the words name. The answer is the exit status.

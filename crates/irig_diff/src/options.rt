@@ -13,14 +13,14 @@ pub fn settings_of<'a>(raw: &RawValues<'a>) -> Result<Settings<'a>, OptionFault>
     ensures chosen { IfOk result (IsChosen raw.now) }
     ensures fault { IfErr result (HasFault raw.now) }
 {
-    let window = match window_named(raw.from, raw.to) {
+    let window = match window_named(raw.part.from, raw.part.to) {
         Ok(window) => window,
         Err(fault) => return Err(OptionFault::Window(fault)),
     };
     match frames_of(raw) {
         Ok(frames) => Ok(Settings {
             before: raw.before,
-            wire: raw.wire,
+            wire: raw.part.wire,
             after: raw.after,
             wire_after: raw.wire_after,
             window,
@@ -36,7 +36,7 @@ fn frames_of(raw: &RawValues<'_>) -> Result<Option<Format>, OptionFault>
     ensures fault { IfErr result (HasFault raw.now) }
 {
     if raw.frames {
-        return match format_named(raw.format, raw.expression) {
+        return match format_named(raw.part.format, raw.part.expression) {
             Ok(format) => Ok(Some(format)),
             Err(fault) => Err(OptionFault::Format(fault)),
         };
@@ -51,5 +51,5 @@ fn frames_of(raw: &RawValues<'_>) -> Result<Option<Format>, OptionFault>
 fn names_format(raw: &RawValues<'_>) -> bool
     ensures { result ≡ names_format raw.now }
 {
-    raw.format.is_some() || raw.expression.is_some()
+    raw.part.format.is_some() || raw.part.expression.is_some()
 }

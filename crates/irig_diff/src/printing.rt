@@ -54,7 +54,7 @@ fn print_next<W: Write, T: Text>(
 {
     block.clear();
     let Ok(ended) = text.fill(block, ENOUGH) else {
-        return Err(PrintFault);
+        return Err(PrintFault::Other);
     };
     *empty = *empty && block.is_empty();
     match put_all(out, block) {

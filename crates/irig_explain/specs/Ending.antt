@@ -26,7 +26,7 @@ Lists chosen edges old new (Listed quiet) =
     (parts : List Part) × IsListing chosen.format edges (not chosen.sure) parts
     × Appends old new (texts chosen.json parts) × (quiet ≡ is_quiet parts)
 Lists chosen edges old new OutOfMemory = new ≡ old
-Lists chosen edges old new Unprinted =
+Lists chosen edges old new (Unprinted why) =
     (parts : List Part) × IsListing chosen.format edges (not chosen.sure) parts
     × AppendsFront old new (texts chosen.json parts)
 Lists chosen edges old new _ = ⊥

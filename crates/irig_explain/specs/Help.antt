@@ -1,7 +1,5 @@
 -- What is printed if the words ask for help, or for the version. This project's own.
-use Rattle.std.specs.Prelude.{ℕ, Bool, false, List, [], ◌∷◌, ◌++◌, codes}
-use Rattle.std.specs.Str.{bytes_eq}
-use Rattle.clap.specs.Words.{Text}
+use Rattle.std.specs.Prelude.{ℕ, List, ◌++◌, codes}
 
 abbrev pub help_text : List ℕ
 help_text = codes "Usage: irig_explain [OPTIONS] <TRACK>\n\nArguments:\n"
@@ -20,10 +18,3 @@ help_text = codes "Usage: irig_explain [OPTIONS] <TRACK>\n\nArguments:\n"
 abbrev pub version_text : List ℕ
 version_text = codes "irig_explain has the version of the tools that were installed with it: "
     ++ codes "irig_mend --version\n"
-
--- the words ask for the version: after the program's name there is just this one
-abbrev pub asks_version : List Text → Bool
-asks_version [] = false
-asks_version (name ∷ []) = false
-asks_version (name ∷ word ∷ []) = bytes_eq word (codes "--version")
-asks_version (name ∷ word ∷ other ∷ words) = false

@@ -1,7 +1,7 @@
 //! The command line, read by `clap`.
 
 ghost use Rattle.std.specs.Prelude.{◌≡◌, IfErr, IfOk, Some, codes, map, string_bytes};
-ghost use Rattle.clap.specs.Words.{HasMatchesOf, app_of, first_value, found_of};
+ghost use Rattle.clap.specs.Words.{first_value, found_of};
 ghost use Rattle.irig_explain.specs.Options.{the_command};
 ghost use Rattle.irig_explain.specs.Settings.{AreValues, Reads};
 ghost use Rattle.irig_words.specs.Errors.{MayRefuse, WantsMemory};
@@ -10,11 +10,11 @@ ghost use Rattle.irig_words.specs.Usage.{Values};
 use crate::chosen::{Chosen, OptionFault};
 use crate::options::chosen_of;
 use crate::raw_values::RawValues;
-use clap::{ArgMatches, Command, Error};
-use irig_words::{Argument, UsageFault, command_of, matches_of};
+use clap::{ArgMatches, Error};
+use irig_words::{Argument, UsageFault, is_on, matches_with, part_values};
 use std::alloc::{AllocError, Global};
 
-static ARGUMENTS: [Argument<'static>; 8] = [
+pub static ARGUMENTS: [Argument<'static>; 8] = [
     Argument::Valued("wire", "NAME"),
     Argument::Valued("from", "TIME"),
     Argument::Valued("to", "TIME"),
@@ -44,13 +44,13 @@ fn raw_values<'a>(alloc: Global, words: &'a [String]) -> Result<RawValues<'a>, E
         (map string_bytes words.entry.now)) }
     ensures refused { IfErr result (MayRefuse the_command (map string_bytes words.entry.now)) }
 {
-    match parse_words(alloc, words) {
+    match matches_with(alloc, "irig_explain", ARGUMENTS.as_slice(), words) {
         Ok(matches) => values_of(&matches),
         Err(error) => Err(error),
     }
 }
 
-/// The values of the matches, each as it was written.
+/// The values of the matches, each as it was written; `None` for an option that is not given.
 fn values_of<'a>(matches: &ArgMatches<'a>) -> Result<RawValues<'a>, Error>
     ensures values { IfOk result (AreValues (found_of matches.now)) }
     ensures memory { IfErr result WantsMemory }
@@ -68,25 +68,8 @@ fn raw_of<'a>(track: &'a str, matches: &ArgMatches<'a>) -> RawValues<'a>
 {
     RawValues {
         track,
-        wire: matches.get_str("wire"),
-        from: matches.get_str("from"),
-        to: matches.get_str("to"),
-        format: matches.get_str("format"),
-        expression: matches.get_str("expression"),
-        sure: matches.get_flag("sure"),
-        json: matches.get_flag("json"),
+        part: part_values(matches),
+        sure: is_on(matches, "sure"),
+        json: is_on(matches, "json"),
     }
-}
-
-fn parse_words<'a>(alloc: Global, words: &'a [String]) -> Result<ArgMatches<'a>, Error>
-    ensures parsed { IfOk result (HasMatchesOf the_command (map string_bytes words.entry.now)) }
-    ensures refused { IfErr result (MayRefuse the_command (map string_bytes words.entry.now)) }
-{
-    matches_of(command(alloc)?, words)
-}
-
-pub fn command<'a>(alloc: Global) -> Result<Command<'a>, AllocError>
-    ensures { IfOk result (λ c. app_of c ≡ the_command) }
-{
-    command_of(alloc, "irig_explain", ARGUMENTS.as_slice())
 }

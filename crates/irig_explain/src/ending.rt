@@ -2,6 +2,7 @@
 
 use crate::chosen::OptionFault;
 use irig_files::TrackFault;
+use irig_print::PrintFault;
 use irig_words::UsageFault;
 
 /// How the program ends, before it is reported.
@@ -14,5 +15,5 @@ pub enum Ending<'a> {
     Listed(bool),
     /// Memory ran out, and nothing was printed.
     OutOfMemory,
-    Unprinted,
+    Unprinted(PrintFault),
 }

@@ -45,6 +45,6 @@ fn explain_track<'a, W: Write>(
     };
     match put_all(out, text.as_slice()) {
         Ok(()) => Ending::Listed(is_quiet(parts.as_slice())),
-        Err(_) => Ending::Unprinted,
+        Err(why) => Ending::Unprinted(why),
     }
 }

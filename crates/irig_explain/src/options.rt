@@ -11,14 +11,14 @@ pub fn chosen_of<'a>(raw: &RawValues<'a>) -> Result<Chosen<'a>, OptionFault>
     ensures chosen { IfOk result (IsChosen raw.now) }
     ensures fault { IfErr result (HasFault raw.now) }
 {
-    let window = match window_named(raw.from, raw.to) {
+    let window = match window_named(raw.part.from, raw.part.to) {
         Ok(window) => window,
         Err(fault) => return Err(OptionFault::Window(fault)),
     };
-    match format_named(raw.format, raw.expression) {
+    match format_named(raw.part.format, raw.part.expression) {
         Ok(format) => Ok(Chosen {
             track: raw.track,
-            wire: raw.wire,
+            wire: raw.part.wire,
             window,
             format,
             sure: raw.sure,

@@ -49,9 +49,9 @@ lacks_year f s = is_calendar s.form && (not (is_some s.year) && nat_lt f.express
 -- the values ask for this
 pub record IsChosen (a : RawValues) (c : Chosen) : Type 0 where
   pub track : c.track ≡ a.track
-  pub wire : c.wire ≡ a.wire
-  pub window : IsWindow (given a.from) (given a.to) c.window
-  pub format : IsFormat (given a.format) (given a.expression) c.format
+  pub wire : c.wire ≡ a.part.wire
+  pub window : IsWindow (given a.part.from) (given a.part.to) c.window
+  pub format : IsFormat (given a.part.format) (given a.part.expression) c.format
   pub out : c.out ≡ a.out
   pub settings : HasSettings a c.settings
   pub year : lacks_year c.format c.settings ≡ false

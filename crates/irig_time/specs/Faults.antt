@@ -16,9 +16,9 @@ use Rattle.irig_time.specs.declared.chosen.OptionFault.TheVariants as fault
 
 -- this option has a value that it cannot have
 abbrev pub HasFault : RawValues → OptionFault → Type 0
-HasFault a (fault.Window of_window) = HasWindowFault (given a.from) (given a.to) of_window
+HasFault a (fault.Window of_window) = HasWindowFault (given a.part.from) (given a.part.to) of_window
 HasFault a (fault.Format of_format) =
-    HasFormatFault (given a.format) (given a.expression) of_format
+    HasFormatFault (given a.part.format) (given a.part.expression) of_format
 HasFault a fault.Unit = places_named (text_or a.unit (codes "us")) ≡ None
 HasFault a fault.Offset = (n : ℕ) × (places_named (text_or a.unit (codes "us")) ≡ Some n)
     × (offset_named n (text_or a.offset (codes "0")) ≡ None)
@@ -37,7 +37,7 @@ HasFault a fault.Year = whole_between 1000 9998 (text_or a.year (codes "")) ≡ 
 HasFault a fault.Within = whole_between 0 4294967296 (text_or a.within (codes "")) ≡ None
 HasFault a fault.Form = form_named (text_or a.form (codes "ordinal")) ≡ None
 HasFault a fault.NoYear =
-    (f : FormatView) × (s : Settings) × IsFormat (given a.format) (given a.expression) f
+    (f : FormatView) × (s : Settings) × IsFormat (given a.part.format) (given a.part.expression) f
     × HasSettings a s × (lacks_year f s ≡ true)
 HasFault a fault.Table = is_not_of_table a ≡ true
 HasFault a fault.Holes = is_not_of_holes a ≡ true

@@ -1,22 +1,22 @@
 -- The statuses of the program as a process. This project's own.
 use Rattle.std.specs.Prelude.{ℕ, Bool, true, false, List, Option}
 use Rattle.clap.specs.Words.{Text}
-use Rattle.irig_words.specs.Telling.{EndsWith, Explains, Helps}
+use Rattle.irig_words.specs.Telling.{EndsWith, Explains, Helps, unprinted_status}
 use Rattle.irig_time.specs.declared.ending.Ending.TheVariants.{Usage, Unread, Aligned}
 use Rattle.irig_time.specs.declared.ending.Ending.TheVariants.{Listed, Holed, Timeless, Doubted, Broken}
 use Rattle.irig_time.specs.declared.ending.Ending.TheVariants.{OverLines, OverTrack, Unknown}
 use Rattle.irig_time.specs.declared.ending.Ending.TheVariants.{Unwritten}
 use Rattle.irig_stamps.specs.declared.fault.RunFault.{RunFault}
 use Rattle.irig_stamps.specs.declared.fault.RunFault.TheVariants.{PrintFailed}
-use Rattle.irig_stamps.specs.declared.fault.PrintFault.TheVariants.{Closed}
 use Rattle.irig_time.specs.{Done.holes_status, Done.lines_status, Ending.EndsBy, Given.Files}
 use Rattle.irig_time.specs.{Given.IsUntouched}
-use Rattle.irig_time.specs.Help.{asks_version, help_text, version_text}
+use Rattle.irig_words.specs.Version.{asks_version}
+use Rattle.irig_time.specs.Help.{help_text, version_text}
 use Rattle.irig_time.specs.{declared.ending.Ending.Ending}
 
 -- the status of a run that was broken off: 141 if nobody reads the output any more
 abbrev pub broken_status : RunFault → ℕ
-broken_status (PrintFailed Closed) = 141
+broken_status (PrintFailed why) = unprinted_status 4 why
 broken_status _ = 4
 
 -- the status for how the program ended, and what is printed on the output of help: that of

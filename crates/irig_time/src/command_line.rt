@@ -1,22 +1,21 @@
 //! The command line, read by `clap`.
 
 ghost use Rattle.std.specs.Prelude.{◌≡◌, IfErr, IfOk, Some, codes, map, string_bytes};
-ghost use Rattle.clap.specs.Words.{HasMatchesOf, app_of, first_value, found_of};
+ghost use Rattle.clap.specs.Words.{first_value, found_of};
 ghost use Rattle.irig_time.specs.Chosen.{IsSound};
 ghost use Rattle.irig_time.specs.Options.{the_command};
-ghost use Rattle.irig_time.specs.Settings.{AreValues, Reads, is_on};
+ghost use Rattle.irig_time.specs.Settings.{AreValues, Reads};
 ghost use Rattle.irig_words.specs.Errors.{MayRefuse, WantsMemory};
 ghost use Rattle.irig_words.specs.Usage.{Values};
 
 use crate::chosen::{Chosen, OptionFault};
 use crate::options::chosen_of;
 use crate::raw_values::RawValues;
-use crate::values::is_same;
-use clap::{ArgMatches, Command, Error};
-use irig_words::{Argument, UsageFault, command_of, matches_of};
+use clap::{ArgMatches, Error};
+use irig_words::{Argument, UsageFault, is_on, matches_with, part_values};
 use std::alloc::{AllocError, Global};
 
-static ARGUMENTS: [Argument<'static>; 23] = [
+pub static ARGUMENTS: [Argument<'static>; 23] = [
     Argument::Valued("wire", "NAME"),
     Argument::Valued("from", "TIME"),
     Argument::Valued("to", "TIME"),
@@ -62,7 +61,7 @@ fn raw_values<'a>(alloc: Global, words: &'a [String]) -> Result<RawValues<'a>, E
         (map string_bytes words.entry.now)) }
     ensures refused { IfErr result (MayRefuse the_command (map string_bytes words.entry.now)) }
 {
-    match parse_words(alloc, words) {
+    match matches_with(alloc, "irig_time", ARGUMENTS.as_slice(), words) {
         Ok(matches) => values_of(&matches),
         Err(error) => Err(error),
     }
@@ -86,11 +85,7 @@ fn raw_of<'a>(track: &'a str, matches: &ArgMatches<'a>) -> RawValues<'a>
 {
     RawValues {
         track,
-        wire: matches.get_str("wire"),
-        from: matches.get_str("from"),
-        to: matches.get_str("to"),
-        format: matches.get_str("format"),
-        expression: matches.get_str("expression"),
+        part: part_values(matches),
         unit: matches.get_str("unit"),
         offset: matches.get_str("offset"),
         column: matches.get_str("column"),
@@ -109,28 +104,4 @@ fn raw_of<'a>(track: &'a str, matches: &ArgMatches<'a>) -> RawValues<'a>
         json: is_on(matches, "json"),
         quiet: is_on(matches, "quiet"),
     }
-}
-
-/// Whether an option without a value is given.
-fn is_on(matches: &ArgMatches<'_>, name: &str) -> bool
-    ensures { result ≡ is_on (first_value (found_of matches.now) name.now) }
-{
-    match matches.get_str(name) {
-        Some(text) => is_same(text.as_bytes(), b"true"),
-        None => false,
-    }
-}
-
-fn parse_words<'a>(alloc: Global, words: &'a [String]) -> Result<ArgMatches<'a>, Error>
-    ensures parsed { IfOk result (HasMatchesOf the_command (map string_bytes words.entry.now)) }
-    ensures refused { IfErr result (MayRefuse the_command (map string_bytes words.entry.now)) }
-{
-    matches_of(command(alloc)?, words)
-}
-
-/// The command line of the program.
-pub fn command<'a>(alloc: Global) -> Result<Command<'a>, AllocError>
-    ensures { IfOk result (λ c. app_of c ≡ the_command) }
-{
-    command_of(alloc, "irig_time", ARGUMENTS.as_slice())
 }

@@ -23,30 +23,23 @@ mod words_run;
 ghost use Rattle.std.specs.Prelude.{◌≡◌, map, string_bytes};
 ghost use Rattle.std.specs.Process.{exit_status};
 ghost use Rattle.irig_files.specs.Taken.{IsLocked};
-ghost use Rattle.irig_time.specs.{Given.files, Help.asks_version, Statuses.Serves};
+ghost use Rattle.irig_time.specs.{Given.files, Statuses.Serves};
 
-use command_line::command;
-use help::program;
-use irig_files::{FileSystem, Files, system_files};
-use statuses::{print_version, report};
+use command_line::ARGUMENTS;
+use help::{program, version_text};
+use irig_files::{FileSystem, Files};
+use irig_words::{asks_version, given};
+use statuses::report;
+use std::io;
 use std::io::{Read, Write};
 use std::process::ExitCode;
-use std::rt::Runtime;
-use std::{env, io};
-use values::is_same;
 use words_run::align_words;
 
-// Gets the files of the system and the words of the command line, and aligns the lines on the input
-// with the track as `start` does, which gives the status. `system_files` of irig_files takes the
-// memory for the paths of files, and fails only if there is none: that is printed on the standard
-// error, with status 2. If the words cannot be had, `tell_no_words` prints why, with status 2, too.
+// Aligns the lines on the input with the track as `start` does, which gives the status.
 fn main(rt: HostRuntime) -> ExitCode {
-    let Ok(mut files) = system_files(&rt) else {
-        return program().tell(&rt, 2, &io::Error::from(io::ErrorKind::OutOfMemory));
-    };
-    match arguments(&rt) {
+    match given(&rt) {
         // One output is for the lines, and one for the help.
-        Ok(words) => start(
+        Ok((mut files, words)) => start(
             &rt,
             words.as_slice(),
             &mut files,
@@ -54,15 +47,8 @@ fn main(rt: HostRuntime) -> ExitCode {
             &mut io::writer(&rt),
             &mut io::writer(&rt),
         ),
-        // The command is for what `clap` says of a word that is not UTF-8.
-        Err(error) => program().tell_no_words(&rt, &error, command(rt.alloc())),
+        Err(error) => program().tell_not_given(&rt, &error, ARGUMENTS.as_slice()),
     }
-}
-
-/// The words of the command line, the program's name being the first.
-fn arguments<R: Runtime + AllocGlobal>(rt: &R) -> io::Result<Vec<String>> {
-    let words = env::args(rt)?.collect(rt.alloc())?;
-    Ok(words)
 }
 
 /// Aligns the lines of an input with the track that the words name, by the files of this system
@@ -85,17 +71,8 @@ fn start<P: Eprint + AllocGlobal, C: FileSystem, R: Read, W: Write, H: Write>(
         (H.contents help.old) (H.contents help.new) (exit_status result) }
 {
     if asks_version(words) {
-        return print_version(rt, help);
+        return program().print(rt, version_text(), help);
     }
     let ending = align_words(rt.alloc(), words, disk, lines, out);
     report(rt, &ending, help)
-}
-
-fn asks_version(words: &[String]) -> bool
-    ensures { result ≡ asks_version (map string_bytes words.now) }
-{
-    match words {
-        [_, word] => is_same(word.as_bytes(), b"--version"),
-        _ => false,
-    }
 }

@@ -9,8 +9,7 @@ ghost use Rattle.irig_words.specs.Formats.{text_or};
 
 use crate::chosen::OptionFault;
 use crate::raw_values::RawValues;
-use crate::values::is_same;
-use irig_words::text_or;
+use irig_words::{is_same, text_or};
 
 /// The name of the column of times (`--name`), `time` if none is given.
 pub fn name_of<'a>(

@@ -21,11 +21,11 @@ pub fn chosen_of<'a>(raw: &RawValues<'a>) -> Result<Chosen<'a>, OptionFault>
     ensures sound { IfOk result (λ c. IsSound c.settings) }
     ensures fault { IfErr result (HasFault raw.now) }
 {
-    let window = match window_named(raw.from, raw.to) {
+    let window = match window_named(raw.part.from, raw.part.to) {
         Ok(window) => window,
         Err(fault) => return Err(OptionFault::Window(fault)),
     };
-    let format = match format_named(raw.format, raw.expression) {
+    let format = match format_named(raw.part.format, raw.part.expression) {
         Ok(format) => format,
         Err(fault) => return Err(OptionFault::Format(fault)),
     };
@@ -36,7 +36,7 @@ pub fn chosen_of<'a>(raw: &RawValues<'a>) -> Result<Chosen<'a>, OptionFault>
     let task = task_of(raw)?;
     Ok(Chosen {
         track: raw.track,
-        wire: raw.wire,
+        wire: raw.part.wire,
         window,
         format,
         out: raw.out,

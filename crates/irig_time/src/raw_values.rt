@@ -1,15 +1,13 @@
 //! The values of a command line as text, before it is tested what they mean.
 
+use irig_words::PartValues;
+
 /// The values of a command line, as they are written; `None` for an option that is not given, and
 /// `false` for one without a value.
 #[derive(Drop)]
 pub struct RawValues<'a> {
     pub track: &'a str,
-    pub wire: Option<&'a str>,
-    pub from: Option<&'a str>,
-    pub to: Option<&'a str>,
-    pub format: Option<&'a str>,
-    pub expression: Option<&'a str>,
+    pub part: PartValues<'a>,
     pub unit: Option<&'a str>,
     pub offset: Option<&'a str>,
     pub column: Option<&'a str>,

@@ -2,24 +2,16 @@
 
 ghost use Rattle.std.specs.Prelude.{◌≡◌};
 ghost use Rattle.std.specs.Process.{exit_status};
-ghost use Rattle.irig_words.specs.Telling.{Helps};
-ghost use Rattle.irig_time.specs.Help.{version_text};
 ghost use Rattle.irig_time.specs.Done.{holes_status, is_whole, lines_status};
 ghost use Rattle.irig_time.specs.Statuses.{Reports, broken_status};
 
 use crate::done::Done;
 use crate::ending::Ending;
 use crate::found::Found;
-use crate::help::{program, version_text};
-use irig_files::TrackFault;
-use irig_print::put_all;
-use irig_stamps::{PrintFault, RunFault, Standing, Tally};
+use crate::help::program;
+use irig_stamps::{RunFault, Standing, Tally};
 use std::io::Write;
 use std::process::ExitCode;
-
-/// The status of a program whose output nobody reads any more: 128 and the number of SIGPIPE, as a
-/// shell shows it of `cat` and `sort`.
-const CLOSED: u8 = 141;
 
 pub fn report<R: Eprint, H: Write>(rt: &R, ending: &Ending<'_>, help: &mut H) -> ExitCode
     ensures { Reports ending.now (H.contents help.old) (H.contents help.new) (exit_status result) }
@@ -27,7 +19,7 @@ pub fn report<R: Eprint, H: Write>(rt: &R, ending: &Ending<'_>, help: &mut H) ->
     let program = program();
     match ending {
         Ending::Usage(fault) => program.explain(rt, fault, help),
-        Ending::Unread(path, fault) => tell_unread(rt, path, fault),
+        Ending::Unread(path, fault) => program.tell_track(rt, 3, path, fault),
         Ending::Aligned(done) => tell_aligned(rt, done),
         Ending::Listed => ExitCode::SUCCESS,
         Ending::Holed(found) => tell_holed(rt, found),
@@ -41,31 +33,11 @@ pub fn report<R: Eprint, H: Write>(rt: &R, ending: &Ending<'_>, help: &mut H) ->
     }
 }
 
-/// Prints the version on `help`, the program's output.
-pub fn print_version<R: Eprint, H: Write>(rt: &R, help: &mut H) -> ExitCode
-    ensures { Helps version_text 4 (H.contents help.old) (H.contents help.new)
-        (exit_status result) }
-{
-    match put_all(help, version_text().as_bytes()) {
-        Ok(()) => ExitCode::SUCCESS,
-        Err(_) => program().tell(rt, 4, &program().fault),
-    }
-}
-
-fn tell_unread<R: Eprint>(rt: &R, path: &str, fault: &TrackFault) -> ExitCode
-    ensures { exit_status result ≡ 3 }
-{
-    match fault {
-        TrackFault::File(fault) => program().tell_of(rt, 3, path, fault),
-        TrackFault::Dump(fault) => program().tell_dump(rt, 3, path, *fault),
-    }
-}
-
 fn tell_broken<R: Eprint>(rt: &R, fault: &RunFault) -> ExitCode
     ensures { exit_status result ≡ broken_status fault.now }
 {
     match fault {
-        RunFault::PrintFailed(PrintFault::Closed) => ExitCode::from(CLOSED),
+        RunFault::PrintFailed(why) => program().tell_unprinted(rt, *why),
         _ => program().tell(rt, 4, fault),
     }
 }

@@ -1,11 +1,11 @@
 //! What the texts of single values mean.
 
 ghost use Rattle.std.specs.Prelude.{◌≡◌, ◌≤◌, ◌<◌, ◌^◌, IfSome, Some};
-ghost use Rattle.std.specs.Str.{bytes_eq};
 ghost use Rattle.irig_time.specs.Values.{comma_named, form_named, is_of_text};
 ghost use Rattle.irig_time.specs.Values.{is_parting, near, offset_named, whole_between, within};
 
 use irig_stamps::{Form, Picos, number, whole};
+use irig_words::is_same;
 
 /// The greatest offset, before zero and after it: 2^119 picoseconds.
 const LATEST: u128 = 664_613_997_892_457_936_451_903_530_140_172_288;
@@ -89,10 +89,4 @@ pub fn form_named(name: &[u8]) -> Option<Form>
     } else {
         None
     }
-}
-
-pub fn is_same(text: &[u8], word: &[u8]) -> bool
-    ensures { result ≡ bytes_eq text.now word.now }
-{
-    text == word
 }

@@ -1,3 +1,3 @@
-pub mod Given
+pub mod EitherGiven
 pub mod Refusals
 pub mod Times

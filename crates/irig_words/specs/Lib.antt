@@ -4,4 +4,6 @@ pub mod Formats
 pub mod Next
 pub mod Telling
 pub mod Usage
+pub mod Values
+pub mod Version
 pub mod Windows

@@ -2,6 +2,8 @@
 use Rattle.std.specs.Prelude.{◌≡◌, ◌⊎◌, ℕ, List, Option}
 use Rattle.std.specs.Io.KnownBytes.{Appends}
 use Rattle.irig_print.specs.Front.{AppendsFront}
+use Rattle.irig_print.specs.declared.output.PrintFault.{PrintFault}
+use Rattle.irig_print.specs.declared.output.PrintFault.TheVariants.{Closed, Other}
 use Rattle.irig_words.specs.Errors.{IsHelp, IsMistake}
 use Rattle.irig_words.specs.declared.usage.UsageFault.{UsageFault}
 use Rattle.irig_words.specs.declared.usage.UsageFault.TheVariants.{Words, Value}
@@ -9,6 +11,11 @@ use Rattle.irig_words.specs.declared.usage.UsageFault.TheVariants.{Words, Value}
 -- the process ends with this status, and no help is printed
 abbrev pub EndsWith : ℕ → Option (List ℕ) → Option (List ℕ) → ℕ → Type 0
 EndsWith wanted old new status = (new ≡ old) × (status ≡ wanted)
+
+-- the status after an output that failed: 141 if nobody reads it any more
+abbrev pub unprinted_status : ℕ → PrintFault → ℕ
+unprinted_status failed Closed = 141
+unprinted_status failed Other = failed
 
 -- it ends with 0, and the help is printed; or with the status of an output that fails, and a front
 -- of the help is

@@ -3,19 +3,24 @@
 ghost use Rattle.std.specs.Prelude.{◌≡◌};
 ghost use Rattle.std.specs.Process.{exit_status};
 ghost use Rattle.irig_words.specs.Errors.{IsHelp, IsMistake};
-ghost use Rattle.irig_words.specs.Telling.{EndsWith, Explains, Helps};
+ghost use Rattle.irig_words.specs.Telling.{EndsWith, Explains, Helps, unprinted_status};
 
+use crate::arguments::{Argument, command_of};
 use crate::errors::not_text;
 use crate::next::what_next;
 use crate::usage::UsageFault;
 use clap::{Command, Error};
-use irig_print::put_all;
+use irig_files::TrackFault;
+use irig_print::{PrintFault, put_all};
 use irig_vcd::VcdFault;
 use std::alloc::AllocError;
 use std::fmt::Display;
 use std::io;
 use std::io::Write;
 use std::process::ExitCode;
+
+/// The status if nobody reads the output any more: 128 and the number of SIGPIPE, as of `cat`.
+const CLOSED: u8 = 141;
 
 /// What a program says of itself.
 #[derive(Clone, Copy)]
@@ -62,6 +67,43 @@ impl<'a> Program<'a> {
         ExitCode::from(status)
     }
 
+    pub fn tell_track<R: Eprint>(
+        &self,
+        rt: &R,
+        status: u8,
+        path: &str,
+        fault: &TrackFault,
+    ) -> ExitCode
+        ensures { exit_status result ≡ status }
+    {
+        match fault {
+            TrackFault::File(fault) => self.tell_of(rt, status, path, fault),
+            TrackFault::Dump(fault) => self.tell_dump(rt, status, path, *fault),
+        }
+    }
+
+    /// Says that the output failed, if somebody reads it.
+    pub fn tell_unprinted<R: Eprint>(&self, rt: &R, why: PrintFault) -> ExitCode
+        ensures { exit_status result ≡ unprinted_status self.now.status why }
+    {
+        match why {
+            PrintFault::Closed => ExitCode::from(CLOSED),
+            PrintFault::Other => self.tell(rt, self.status, &self.fault),
+        }
+    }
+
+    /// Says why `given` failed.
+    pub fn tell_not_given<R: Eprint + AllocGlobal>(
+        &self,
+        rt: &R,
+        why: &io::Error,
+        arguments: &[Argument<'_>],
+    ) -> ExitCode
+        ensures { exit_status result ≡ 2 }
+    {
+        self.tell_no_words(rt, why, command_of(rt.alloc(), self.name, arguments))
+    }
+
     /// Says why there are no words. Of one that is not UTF-8 `clap` does, for which it needs the
     /// program's own `command`.
     pub fn tell_no_words<R: Eprint>(
@@ -105,14 +147,15 @@ impl<'a> Program<'a> {
         if error.use_stderr() {
             return tell_mistake(rt, error);
         }
-        self.print_help(rt, help)
+        self.print(rt, self.help, help)
     }
 
-    fn print_help<R: Eprint, H: Write>(&self, rt: &R, help: &mut H) -> ExitCode
-        ensures { Helps self.now.help.now self.now.status (H.contents help.old)
-            (H.contents help.new) (exit_status result) }
+    /// Prints a text that was asked for, and ends with 0.
+    pub fn print<R: Eprint, H: Write>(&self, rt: &R, text: &str, help: &mut H) -> ExitCode
+        ensures { Helps text.now self.now.status (H.contents help.old) (H.contents help.new)
+            (exit_status result) }
     {
-        match put_all(help, self.help.as_bytes()) {
+        match put_all(help, text.as_bytes()) {
             Ok(()) => ExitCode::SUCCESS,
             Err(_) => self.tell(rt, self.status, &self.fault),
         }

@@ -1,5 +1,5 @@
 use Rattle.std.proofs.Common.{◌∙◌, rules, sym}
-use Rattle.irig_words.proofs.Given.{given_none, given_one}
+use Rattle.irig_words.proofs.EitherGiven.{given_none, given_one}
 use Rattle.irig_words.proofs.windows.window_named.Goals as goal
 
 pub returns-then-not-is_given-clause-window : goal.returns-then-not-is_given-clause-window
