@@ -12,7 +12,7 @@ use Rattle.irig_times.specs.Times.{timed}
 use Rattle.irig_times.proofs.Records.{frame-reads, frames-rise}
 use Rattle.irig_times.proofs.SoundFrames.{element-stands, whole-minute}
 use Rattle.irig_law.specs.{Believed.believed, Believed.believed_in, Believed.chain_after, Believed.kept, Believed.kept_from, Believed.with_frame}
-use Rattle.irig_law.specs.{Chains.chains_of, Fine.fine_at, Fine.fine_frames, Fine.fine_in, Fine.with_fine, OfOne.is_right, Points.AreFrames}
+use Rattle.irig_law.specs.{Chains.chains_of, Chains.fine_at, Chains.fine_frames, Chains.fine_in, Chains.with_fine, OfOne.is_right, Points.AreFrames}
 use Rattle.irig_law.specs.declared.{fine.Fine.Fine, frame.Frame.Frame}
 
 period-some : (k : Kind) → 0 < frame_period_of k

@@ -7,7 +7,7 @@ use Rattle.irig_codes.specs.Format.{FormatView}
 use Rattle.irig_recording.specs.declared.pulse.Pulse.{Pulse}
 use Rattle.irig_times.specs.TimedElements.{time_elements}
 use Rattle.irig_law.specs.{Clocks.end_slack, Denials.seen_after, Denials.seen_before, Elements.element_after, Elements.element_before}
-use Rattle.irig_law.specs.EndPoints.{AreInStep, begin_of, end_of}
+use Rattle.irig_law.specs.Seens.{AreInStep, begin_of, end_of}
 use Rattle.irig_law.specs.Ends.{IsAfterLast, IsBeforeFirst, IsInStepAfter, IsInStepBefore, IsSureAfter, IsSureBefore}
 use Rattle.irig_law.specs.Seens.{SeenAfter, SeenBefore}
 use Rattle.irig_law.specs.declared.{frame.Frame.Frame, names.Seen.Seen, point.Point.Point}

@@ -4,7 +4,7 @@ use Rattle.std.specs.Prelude.{nat_le, nat_lt, ◌&&◌}
 use Rattle.std.proofs.lemmas.Bool.{and_parts, cases_Bool, cases_lt, cond-false, cond-true, leb-true, ltb-true}
 use Rattle.std.proofs.lemmas.Nat.{mul-le}
 use Rattle.std.proofs.lemmas.Option.{none-some, same_Some}
-use Rattle.irig_law.specs.Hop.{hop, is_near, is_sure, nearest}
+use Rattle.irig_law.specs.Names.{hop, is_near, is_sure, nearest}
 use Rattle.irig_law.specs.Truth.{HopsAreTrue}
 use Rattle.irig_law.specs.declared.clock.Clock.{Clock}
 

@@ -4,7 +4,7 @@ use Rattle.std.specs.Prelude.{◌↔◌}
 use Rattle.std.proofs.lemmas.Bool.{cases_eq}
 use Rattle.std.proofs.lemmas.List.{length-set}
 use Rattle.std.proofs.lemmas.Option.{same_Some}
-use Rattle.irig_law.specs.Parts.{AreJoined, Knows}
+use Rattle.irig_law.specs.Points.{AreJoined, Knows}
 use Rattle.irig_law.specs.declared.{point.Point.Point, points.Points.Points}
 
 pub set-here : (A : Type 0) (xs : List A) (k : ℕ) (v : A) → k < length xs → slice_get (slice_set xs k v) k ≡ Some v

@@ -18,5 +18,6 @@ mod SeenLists
 mod SentNames
 mod StandardFacts
 mod Stretched
+mod ToldPulses
 mod TrueTimes
 mod Walked

@@ -2,7 +2,7 @@
 use Rattle.std.proofs.Common.{◌≡◌, inl, inr, ◌<◌, ◌≤◌, ◌+◌, ◌-◌, ℕ, suc, zero, Bool, true, List, [], ◌∷◌, length, arith}
 use Rattle.std.proofs.lemmas.Bool.{cases_lt}
 use Rattle.std.proofs.lemmas.Option.{none-some}
-use Rattle.irig_law.specs.Sides.{Denies, IsPossible, TwoAfter}
+use Rattle.irig_law.specs.Law.{Denies, IsPossible, TwoAfter}
 
 -- what denies is in the list
 pub denies-inside : (list : List Bool) (k : ℕ) → Denies list k → k < length list

@@ -11,13 +11,13 @@ use Rattle.irig_times.specs.{TimedElements.time_elements, Times.plus, Times.minu
 use Rattle.irig_law.specs.{Clocks.clock_of, Clocks.end_slack, Clocks.slack_of, Denials.seen_after, Denials.seen_before}
 use Rattle.irig_law.specs.Elements.{element_after, element_at, element_before}
 use Rattle.irig_law.specs.Hours.{at_hour, at_minute, earlier_by, earlier_in_hour, hour_micros, later_by, later_in_hour}
-use Rattle.irig_law.specs.{Law.IsMarker, Law.IsOnFirst, Law.IsOnSecond}
+use Rattle.irig_law.specs.{Law.IsOnFirst, Law.IsOnSecond}
 use Rattle.irig_law.specs.Printed.{CountsOn, IsLater, printed, true_time}
 use Rattle.irig_law.specs.Rows.{rise_in, row_after, row_before, runs_in}
 use Rattle.irig_law.specs.Stories.{Quiet, SentAfter, SentBefore}
 use Rattle.irig_law.specs.{Quiet.is_doubtful, Quiet.name_of, Quiet.quiet_of}
 use Rattle.irig_law.specs.Stretches.{are_alike, first_of, middle_element, named_after, named_before}
-use Rattle.irig_law.specs.Theorems.{BeginTimesAreTrue, EndTimesAreTrue, EventfulTimesAreTrue, QuietTimesAreTrue}
+use Rattle.irig_law.specs.Theorem.{BeginTimesAreTrue, EndTimesAreTrue, EventfulTimesAreTrue, QuietTimesAreTrue}
 use Rattle.irig_law.specs.declared.{point.Point.Point, frame.Frame.Frame, names.Seen.Seen}
 use Rattle.irig_law.specs.declared.names.Seen.TheVariants.{Named, Astray, Unknown}
 use Rattle.irig_law.proofs.SentNames.{names_are_sent}
@@ -277,13 +277,14 @@ eventful_times f century ps a b moment moment_after name sent s k x low few side
       | inr early ↦ absurd (s.one_before h.after.shown.one h.after.shown.other h.after.shown.order early h.after.shown.denies h.after.shown.denies_too)
     ]
 
-    at-marker : IsMarker f a k x → printed f x ≡ true_time f sent (name k)
+    at-marker : (k ≡ a.marker) × (element_after f a 0 ≡ Some x) → printed f x ≡ true_time f sent (name k)
     at-marker h =
         let all = ap name h.0 in
         let marker = s.shown.marker in
         own f sent a s.frame (name k) 0 x s.shown.time (omega arith) (omega (arith, all, marker)) h.1
 
-    by-side : IsMarker f a k x ⊎ (IsOnFirst f ps a b k x ⊎ IsOnSecond f ps a b k x) → printed f x ≡ true_time f sent (name k)
+    by-side : ((k ≡ a.marker) × (element_after f a 0 ≡ Some x)) ⊎ (IsOnFirst f ps a b k x ⊎ IsOnSecond f ps a b k x)
+        → printed f x ≡ true_time f sent (name k)
     by-side (inl h) = at-marker h
     by-side (inr (inl h)) = on-first h
     by-side (inr (inr h)) = on-second h

@@ -7,7 +7,7 @@ use Rattle.irig_codes.specs.Format.{FormatView}
 use Rattle.irig_recording.specs.declared.pulse.Pulse.{Pulse}
 use Rattle.irig_times.specs.TimedElements.{time_elements}
 use Rattle.irig_law.specs.{Ends.IsAfterLast, Ends.IsBeforeFirst, Law.IsBetween, Stretches.stretch}
-use Rattle.irig_law.specs.Parts.{AreJoined, ArePoints, AreSaid, Knows, points_end, marker_or, part_begin}
+use Rattle.irig_law.specs.Points.{AreJoined, ArePoints, AreSaid, Knows, points_end, marker_or, part_begin}
 use Rattle.irig_law.specs.Points.{AreFrames, IsPoint, IsSaid}
 use Rattle.irig_law.specs.declared.{frame.Frame.Frame, point.Point.Point, points.Points.Points}
 

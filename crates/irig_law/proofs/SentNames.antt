@@ -1,7 +1,7 @@
 -- The names by a clock are the elements that were sent.
 use Rattle.std.proofs.Common.{◌≡◌, ◌<◌, ◌≤◌, ◌+◌, ◌-◌, ℕ, suc, zero, Bool, true, false, Option, Some, None, arith, refl, sym, subst}
 use Rattle.std.specs.Prelude.{if◌then◌else◌}
-use Rattle.irig_law.specs.Hop.{hop, is_sure, nearest}
+use Rattle.irig_law.specs.Names.{hop, is_sure, nearest}
 use Rattle.irig_law.specs.Names.{judged, moved, seen, seen_at, walk}
 use Rattle.irig_law.specs.Truth.{NamesAreSent, Runs, Sent}
 use Rattle.irig_law.specs.declared.clock.Clock.{Clock}

@@ -5,7 +5,7 @@ use Rattle.std.specs.Prelude.{get_or}
 use Rattle.irig_times.specs.declared.time.Time.{Time}
 use Rattle.irig_codes.specs.Format.{FormatView}
 use Rattle.irig_codes.specs.declared.format.Kind.TheVariants.{B}
-use Rattle.irig_law.specs.{Elements.element_after, Elements.element_before, Hop.hop, Names.seen}
+use Rattle.irig_law.specs.{Elements.element_after, Elements.element_before, Names.hop, Names.seen}
 use Rattle.irig_law.specs.Calendar.{micros_after}
 use Rattle.irig_law.specs.Holes.{earliest, latest, rate_of, units_of}
 use Rattle.irig_law.specs.Hours.{earlier_in_hour, later_in_hour}

@@ -8,8 +8,8 @@ use Rattle.irig_recording.specs.declared.pulse.Pulse.{Pulse}
 use Rattle.irig_law.specs.{Clocks.clock_of, Clocks.slack_of, Denials.denies_first, Denials.seen_after, Denials.seen_before, Elements.element_after}
 use Rattle.irig_law.specs.{Names.seen, Rows.rise_in, Rows.row_after, Rows.runs_in}
 use Rattle.irig_law.specs.Happened.{AreDenials, AreSides, HasHappened, IsPointBy, event_of, is_doubtful_in, point_by}
-use Rattle.irig_law.specs.Law.{IsBetween, IsMarker, IsOnFirst, IsOnSecond, IsOnSide, IsQuiet}
-use Rattle.irig_law.specs.{Seens.SeenAfter, Seens.SeenBefore, Sides.IsAfter, Sides.IsBefore}
+use Rattle.irig_law.specs.Law.{IsBetween, IsOnFirst, IsOnSecond, IsOnSide, IsQuiet}
+use Rattle.irig_law.specs.{Seens.SeenAfter, Seens.SeenBefore, Law.IsAfter, Law.IsBefore}
 use Rattle.irig_law.specs.{Quiet.is_doubtful, Quiet.quiet_element, Quiet.quiet_of}
 use Rattle.irig_law.specs.Stretches.{by_second, first_denials, named_after, second_denials, stretch}
 use Rattle.irig_law.specs.declared.{frame.Frame.Frame, happened.Happened.Happened, names.Seen.Seen, point.Point.Point, sides.Sides.Sides}
@@ -45,7 +45,7 @@ module _ (f : FormatView) (century : ℕ) (ps : List Pulse) (a b : Frame) (i : �
   Says = IsQuiet f century ps a b k x ⊎ IsOnSide f century ps a b k x
 
   abbrev IsSided : Type 0
-  IsSided = IsMarker f a k x ⊎ (IsOnFirst f ps a b k x ⊎ IsOnSecond f ps a b k x)
+  IsSided = ((k ≡ a.marker) × (element_after f a 0 ≡ Some x)) ⊎ (IsOnFirst f ps a b k x ⊎ IsOnSecond f ps a b k x)
 
   abbrev on-side : Sides → Option Point
   on-side sides = if nat_lt (k - a.marker) sides.until then named_after f a s else (if nat_le sides.from (k - a.marker) then by_second f b k t else None)

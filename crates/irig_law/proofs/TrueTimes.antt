@@ -6,7 +6,7 @@ use Rattle.irig_codes.specs.Format.{FormatView}
 use Rattle.irig_codes.specs.declared.fields.Fields.{Fields}
 use Rattle.irig_recording.specs.declared.pulse.Pulse.{Pulse}
 use Rattle.irig_law.specs.{Points.IsPoint, Printed.printed, Printed.true_time}
-use Rattle.irig_law.specs.Parts.{ArePoints, Knows, part_begin}
+use Rattle.irig_law.specs.Points.{ArePoints, Knows, part_begin}
 use Rattle.irig_law.specs.Theorem.{Story, TimesAreTrue}
 use Rattle.irig_law.specs.declared.{frame.Frame.Frame, point.Point.Point, points.Points.Points}
 use Rattle.irig_law.proofs.Printed.{begin_times, end_times, eventful_times, quiet_times, time-few}

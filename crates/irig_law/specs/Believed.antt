@@ -1,12 +1,11 @@
 -- WHICH FRAMES ARE BELIEVED: those whose story is not mixed with another one that is as long. This
 -- project's own.
-use Rattle.std.specs.Prelude.{ℕ, ◌+◌, ◌==◌, ◌||◌, Bool, false, List, [], ◌∷◌, if◌then◌else◌}
-use Rattle.std.specs.Prelude.{Option, Some, None, length, map, slice_get}
+use Rattle.std.specs.Prelude.{ℕ, ◌+◌, ◌==◌, ◌||◌, Bool, false, List, [], ◌∷◌, if◌then◌else◌, Option}
+use Rattle.std.specs.Prelude.{Some, None, length, map, slice_get}
 use Rattle.irig_codes.specs.Format.{FormatView}
 use Rattle.irig_recording.specs.declared.pulse.Pulse.{Pulse}
-use Rattle.irig_law.specs.{Chains.agree, Chains.chains_of, Fine.fine_frames, OfOne.is_right}
-use Rattle.irig_law.specs.declared.fine.Fine.{Fine}
-use Rattle.irig_law.specs.declared.frame.Frame.{Frame}
+use Rattle.irig_law.specs.{Chains.agree, Chains.chains_of, Chains.fine_frames, OfOne.is_right}
+use Rattle.irig_law.specs.{declared.fine.Fine.Fine, declared.frame.Frame.Frame}
 
 -- whether a list has `true` at a place
 abbrev pub is_true_in : Option Bool → Bool

@@ -1,10 +1,9 @@
 -- How long one time is after another, by the calendar: over midnight, over the end of a year, and
 -- out of a second 60. This project's own.
-use Rattle.std.specs.Prelude.{ℕ, ◌+◌, ◌-◌, ◌*◌, ◌%◌, ◌==◌, ◌&&◌, nat_le, nat_lt, pos}
-use Rattle.std.specs.Prelude.{Option, Some, None, if◌then◌else◌}
+use Rattle.std.specs.Prelude.{ℕ, ◌+◌, ◌-◌, ◌*◌, ◌%◌, ◌==◌, ◌&&◌, nat_le, nat_lt, pos, Option, Some}
+use Rattle.std.specs.Prelude.{None, if◌then◌else◌}
 use Rattle.jiff_core.specs.Calendar.{days_in_year}
-use Rattle.irig_times.specs.Follows.{next_year, same_year}
-use Rattle.irig_times.specs.declared.time.Time.{Time}
+use Rattle.irig_times.specs.{Follows.next_year, Follows.same_year, declared.time.Time.Time}
 
 -- the number of the minute of a time in its year
 abbrev pub minute_of_year : Time → ℕ

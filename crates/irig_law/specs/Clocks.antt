@@ -3,8 +3,7 @@ use Rattle.std.specs.Prelude.{ℕ, ◌+◌, ◌-◌, ◌*◌, ◌/◌, max, List
 use Rattle.irig_codes.specs.Format.{FormatView, interval_of}
 use Rattle.irig_recording.specs.declared.pulse.Pulse.{Pulse}
 use Rattle.irig_times.specs.Steps.{micros_between}
-use Rattle.irig_law.specs.declared.clock.Clock.{Clock}
-use Rattle.irig_law.specs.declared.frame.Frame.{Frame}
+use Rattle.irig_law.specs.{declared.clock.Clock.Clock, declared.frame.Frame.Frame}
 
 -- how far two numbers are apart
 abbrev pub apart : ℕ → ℕ → ℕ

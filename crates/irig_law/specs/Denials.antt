@@ -1,15 +1,14 @@
 -- Which pulses deny what they should be by a frame. This project's own.
-use Rattle.std.specs.Prelude.{ℕ, ◌-◌, ◌&&◌, nat_le, Bool, true, false, List, Option}
-use Rattle.std.specs.Prelude.{Some, None, slice_get, if◌then◌else◌}
+use Rattle.std.specs.Prelude.{ℕ, ◌-◌, ◌&&◌, nat_le, Bool, true, false, List, Option, Some, None}
+use Rattle.std.specs.Prelude.{slice_get, if◌then◌else◌}
 use Rattle.irig_codes.specs.{Encoding.encoded, Fields.fits_in, Format.FormatView}
 use Rattle.irig_recording.specs.declared.pulse.Pulse.{Pulse}
 use Rattle.irig_times.specs.{TimedElements.contradicts, Times.fields_at}
-use Rattle.irig_law.specs.{Clocks.clock_of, Elements.element_after, Elements.element_in}
-use Rattle.irig_law.specs.{Names.seen, Rows.rise_in, Rows.runs_in, Rows.row_after, Rows.row_before}
-use Rattle.irig_law.specs.declared.point.Point.{Point}
-use Rattle.irig_law.specs.declared.frame.Frame.{Frame}
-use Rattle.irig_law.specs.declared.names.Seen.{Seen}
-use Rattle.irig_law.specs.declared.names.Seen.TheVariants.{Named, Astray, Unknown}
+use Rattle.irig_law.specs.{Clocks.clock_of, Elements.element_after, Elements.element_in, Names.seen}
+use Rattle.irig_law.specs.Rows.{rise_in, runs_in, row_after, row_before}
+use Rattle.irig_law.specs.{declared.point.Point.Point, declared.frame.Frame.Frame}
+use Rattle.irig_law.specs.{declared.names.Seen.Seen, declared.names.Seen.TheVariants.Named}
+use Rattle.irig_law.specs.declared.names.Seen.TheVariants.{Astray, Unknown}
 
 -- a pulse is of another class than an element: a position identifier or none, or of those that
 -- carry a part of the time
@@ -31,26 +30,25 @@ denies_seen f p is_back pulse Unknown = false
 -- the same of its name alone: one on no grid shows nothing
 abbrev pub denies_named : FormatView → Frame → Bool → Option Pulse → Seen → Bool
 denies_named f p is_back pulse (Named e) = is_denied f pulse (element_in f p is_back e)
-denies_named f p is_back pulse Astray = false
-denies_named f p is_back pulse Unknown = false
+denies_named f p is_back pulse other = false
 
--- what is seen of a pulse by the frame before it, or by the frame after it
-abbrev pub seen_after : FormatView → List Pulse → Frame → ℕ → ℕ → Seen
-seen_after f ps a slack k =
-    seen (clock_of f ps a slack) (rise_in ps (row_after a)) (runs_in f ps (row_after a))
-    (k - a.marker)
+module _ (f : FormatView) (ps : List Pulse) (p : Frame) (slack k : ℕ) where
+  -- what is seen of a pulse by the frame before it, or by the frame after it
+  abbrev pub seen_after : Seen
+  seen_after =
+      seen (clock_of f ps p slack) (rise_in ps (row_after p)) (runs_in f ps (row_after p))
+      (k - p.marker)
 
-abbrev pub seen_before : FormatView → List Pulse → Frame → ℕ → ℕ → Seen
-seen_before f ps b slack k =
-    seen (clock_of f ps b slack) (rise_in ps (row_before b)) (runs_in f ps (row_before b))
-    (b.marker - k)
+  abbrev pub seen_before : Seen
+  seen_before =
+      seen (clock_of f ps p slack) (rise_in ps (row_before p)) (runs_in f ps (row_before p))
+      (p.marker - k)
 
--- a pulse denies that; from its marker on, a frame has its elements
-abbrev pub denies_first : FormatView → List Pulse → Frame → ℕ → ℕ → Bool
-denies_first f ps a slack k =
-    denies_seen f a false (slice_get ps k) (seen_after f ps a slack k)
+  -- a pulse denies that; from its marker on, a frame has its elements
+  abbrev pub denies_first : Bool
+  denies_first = denies_seen f p false (slice_get ps k) seen_after
 
-abbrev pub denies_second : FormatView → List Pulse → Frame → ℕ → ℕ → Bool
-denies_second f ps b slack k =
-    if nat_le k b.marker then denies_seen f b true (slice_get ps k) (seen_before f ps b slack k)
-    else is_denied f (slice_get ps k) (element_after f b (k - b.marker))
+  abbrev pub denies_second : Bool
+  denies_second =
+      if nat_le k p.marker then denies_seen f p true (slice_get ps k) seen_before
+      else is_denied f (slice_get ps k) (element_after f p (k - p.marker))

@@ -1,10 +1,12 @@
--- The elements before and after the marker of a frame that has a time. This project's own.
-use Rattle.std.specs.Prelude.{ℕ, ◌+◌, ◌-◌, ◌/◌, ◌%◌, Option, option_map, Bool, if◌then◌else◌}
-use Rattle.irig_codes.specs.Format.{FormatView, frame_period_of}
-use Rattle.irig_times.specs.declared.time.Time.{Time}
-use Rattle.irig_law.specs.Hours.{earlier_in_hour, later_in_hour}
-use Rattle.irig_law.specs.declared.point.Point.{Point}
-use Rattle.irig_law.specs.declared.frame.Frame.{Frame}
+-- The elements before and after the marker of a frame that has a time, and those of the frame of a
+-- time as they are kept. This project's own.
+use Rattle.std.specs.Prelude.{ℕ, ◌+◌, ◌-◌, ◌/◌, ◌%◌, Option, option_map, Bool, if◌then◌else◌, ◌≡◌}
+use Rattle.std.specs.Prelude.{true, Some, None}
+use Rattle.irig_codes.specs.{Format.FormatView, Format.frame_period_of, Encoding.encoded}
+use Rattle.irig_codes.specs.Fields.{fits_in}
+use Rattle.irig_times.specs.{declared.time.Time.Time, Times.fields_at}
+use Rattle.irig_law.specs.{Hours.earlier_in_hour, Hours.later_in_hour, declared.point.Point.Point}
+use Rattle.irig_law.specs.{declared.frame.Frame.Frame, declared.wanted.Wanted.Wanted}
 
 -- an element of the frame of a time
 abbrev pub element_at : ℕ → Time → Point
@@ -23,3 +25,13 @@ element_before f b e =
 -- the element of a row with this name
 abbrev pub element_in : FormatView → Frame → Bool → ℕ → Option Point
 element_in f p is_back e = if is_back then element_before f p e else element_after f p e
+
+-- these are the elements of the frame of a time, if its fields fit
+pub record IsWanted (f : FormatView) (w : Wanted) : Type 0 where
+  pub fits : w.fits ≡ fits_in f (fields_at f w.time)
+  pub elements : w.fits ≡ true → w.elements ≡ encoded f (fields_at f w.time)
+
+-- what is kept of the last time that was asked, if one was
+abbrev pub IsKept : FormatView → Option Wanted → Type 0
+IsKept f None = Unit {0}
+IsKept f (Some w) = IsWanted f w

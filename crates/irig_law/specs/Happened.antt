@@ -5,13 +5,11 @@ use Rattle.std.specs.Prelude.{get_or, length, slice_get, Option, Some, None, ifâ
 use Rattle.irig_codes.specs.Format.{FormatView}
 use Rattle.irig_recording.specs.declared.pulse.Pulse.{Pulse}
 use Rattle.irig_law.specs.{Elements.element_after, Fits.Fits, Quiet.denying, Quiet.quiet_of}
-use Rattle.irig_law.specs.{Sides.IsAfter, Sides.IsBefore, Stretches.by_second}
-use Rattle.irig_law.specs.Stretches.{first_denials, named_after, second_denials}
-use Rattle.irig_law.specs.declared.frame.Frame.{Frame}
-use Rattle.irig_law.specs.declared.happened.Happened.{Happened}
+use Rattle.irig_law.specs.{Law.IsAfter, Law.IsBefore, Stretches.by_second, Stretches.first_denials}
+use Rattle.irig_law.specs.Stretches.{named_after, second_denials}
+use Rattle.irig_law.specs.{declared.frame.Frame.Frame, declared.happened.Happened.Happened}
 use Rattle.irig_law.specs.declared.happened.Happened.TheVariants.{Event, Nothing}
-use Rattle.irig_law.specs.declared.names.Seen.{Seen}
-use Rattle.irig_law.specs.declared.point.Point.{Point}
+use Rattle.irig_law.specs.{declared.names.Seen.Seen, declared.point.Point.Point}
 use Rattle.irig_law.specs.declared.sides.Sides.{Sides}
 
 -- these are the sides of an event

@@ -9,23 +9,11 @@ abbrev pub hour_micros : Time → ℕ
 hour_micros t = 60000000 * t.minutes + t.micros
 
 abbrev pub at_hour : Time → ℕ → Time
-at_hour t u = record {
-  year = t.year;
-  days = t.days;
-  hours = t.hours;
-  minutes = u / 60000000;
-  micros = u % 60000000;
-}
+at_hour t u = record t { minutes = u / 60000000; micros = u % 60000000 }
 
 -- the time in its minute by the microseconds since that began
 abbrev pub at_minute : Time → ℕ → Time
-at_minute t u = record {
-  year = t.year;
-  days = t.days;
-  hours = t.hours;
-  minutes = t.minutes;
-  micros = u;
-}
+at_minute t u = record t { micros = u }
 
 -- the time some microseconds later: out of a second 60 none is known
 abbrev pub later_by : ℕ → Time → Option Time

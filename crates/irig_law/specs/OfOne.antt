@@ -1,11 +1,10 @@
 -- Which chains of frames are of one story, and which story is mixed with another one. The story of
 -- a chain is it and all chains near it that agree with it. This project's own.
 use Rattle.std.specs.Prelude.{ℕ, zero, suc, ◌+◌, ◌-◌, ◌*◌, ◌==◌, ◌&&◌, ◌||◌, nat_le, nat_lt, not}
-use Rattle.std.specs.Prelude.{Bool, false, List, length, max, min, slice_get}
-use Rattle.std.specs.Prelude.{Option, Some, None, if◌then◌else◌}
+use Rattle.std.specs.Prelude.{Bool, false, List, length, max, min, slice_get, Option, Some, None}
+use Rattle.std.specs.Prelude.{if◌then◌else◌}
 use Rattle.irig_codes.specs.Format.{FormatView}
-use Rattle.irig_law.specs.Chains.{agree}
-use Rattle.irig_law.specs.declared.chain.Chain.{Chain}
+use Rattle.irig_law.specs.{Chains.agree, declared.chain.Chain.Chain}
 
 -- one of n places from one on; the sum over them
 abbrev pub any_from : (ℕ → Bool) → ℕ → ℕ → Bool
@@ -18,9 +17,8 @@ sum_from count k (suc n) = count k + sum_from count (k + 1) n
 
 -- the last frame of a chain agrees with the first one of a later chain
 abbrev pub is_linked : FormatView → ℕ → Option Chain → Option Chain → Bool
-is_linked f century None d = false
-is_linked f century (Some c) None = false
 is_linked f century (Some c) (Some d) = agree f century c.last d.first
+is_linked f century c d = false
 
 -- two chains are of one story: the same one; or near each other, up to 495 chains, and linked
 abbrev pub of_one : FormatView → ℕ → List Chain → ℕ → ℕ → Bool

@@ -5,8 +5,7 @@ use Rattle.irig_codes.specs.Format.{FormatView, frame_period_of, interval_of}
 use Rattle.irig_codes.specs.declared.fields.Fields.{Fields}
 use Rattle.irig_times.specs.{Times.plus, Times.time_in, declared.time.Time.Time}
 use Rattle.irig_law.specs.Hours.{at_hour, at_minute, hour_micros}
-use Rattle.irig_law.specs.declared.point.Point.{Point}
-use Rattle.irig_law.specs.declared.frame.Frame.{Frame}
+use Rattle.irig_law.specs.{declared.point.Point.Point, declared.frame.Frame.Frame}
 
 -- `sent` is the fields of each frame that was sent. Elements are numbered through, 100 a frame. The
 -- true time of one is that of the fields of its frame, and an interval more for each element before

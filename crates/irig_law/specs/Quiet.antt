@@ -6,22 +6,18 @@ use Rattle.irig_codes.specs.Format.{FormatView}
 use Rattle.irig_recording.specs.declared.pulse.Pulse.{Pulse}
 use Rattle.irig_law.specs.{Clocks.slack_of, Denials.is_denied, Denials.seen_after}
 use Rattle.irig_law.specs.{Denials.seen_before, Elements.element_after, OfOne.sum_from}
-use Rattle.irig_law.specs.Stretches.{middle_element}
-use Rattle.irig_law.specs.declared.point.Point.{Point}
-use Rattle.irig_law.specs.declared.frame.Frame.{Frame}
-use Rattle.irig_law.specs.declared.names.Seen.{Seen}
-use Rattle.irig_law.specs.declared.names.Seen.TheVariants.{Named, Astray, Unknown}
+use Rattle.irig_law.specs.{Stretches.middle_element, declared.point.Point.Point}
+use Rattle.irig_law.specs.{declared.frame.Frame.Frame, declared.names.Seen.Seen}
+use Rattle.irig_law.specs.declared.names.Seen.TheVariants.{Named}
 
 -- how many elements after the marker of the first frame a pulse is by its names
 abbrev pub back_from : ℕ → Seen → ℕ
 back_from whole (Named e) = whole - e
-back_from whole Astray = 0
-back_from whole Unknown = 0
+back_from whole other = 0
 
 abbrev pub name_of : ℕ → Seen → Seen → ℕ
 name_of whole (Named e) t = e
-name_of whole Astray t = back_from whole t
-name_of whole Unknown t = back_from whole t
+name_of whole other t = back_from whole t
 
 -- the frame of the code, counted from the first frame, of which a pulse denies an element
 abbrev pub denied_frame : FormatView → List Pulse → Frame → Frame → ℕ → ℕ → Seen → Seen → Option ℕ

@@ -1,12 +1,11 @@
 -- The pulses after a frame's marker, or before it, and which of them are no noise. This project's
 -- own.
-use Rattle.std.specs.Prelude.{ℕ, ◌+◌, ◌-◌, ◌==◌, ◌&&◌, ◌||◌, nat_le, nat_lt, Bool, true, false, List}
-use Rattle.std.specs.Prelude.{length, if◌then◌else◌}
+use Rattle.std.specs.Prelude.{ℕ, ◌+◌, ◌-◌, ◌==◌, ◌&&◌, ◌||◌, nat_le, nat_lt, Bool, true, false}
+use Rattle.std.specs.Prelude.{List, length, if◌then◌else◌}
 use Rattle.irig_codes.specs.Format.{FormatView}
 use Rattle.irig_recording.specs.declared.pulse.Pulse.{Pulse}
-use Rattle.irig_times.specs.{Steps.is_in_step_at, Steps.micros_between}
-use Rattle.irig_law.specs.declared.frame.Frame.{Frame}
-use Rattle.irig_law.specs.declared.row.Row.{Row}
+use Rattle.irig_times.specs.Steps.{is_in_step_at, micros_between}
+use Rattle.irig_law.specs.{declared.frame.Frame.Frame, declared.row.Row.Row}
 
 -- the pulses from a frame's marker on, and those back from it
 abbrev pub row_after : Frame → Row

@@ -1,32 +1,30 @@
 -- What happened to a recording between two believed frames, and at its ends: the premises under
 -- which times are true. This project's own.
 use Rattle.std.specs.Prelude.{◌≡◌, ℕ, ◌+◌, ◌-◌, ◌*◌, ◌/◌, ◌<◌, ◌≤◌, List}
-use Rattle.irig_codes.specs.Format.{FormatView}
-use Rattle.irig_codes.specs.declared.fields.Fields.{Fields}
+use Rattle.irig_codes.specs.{Format.FormatView, declared.fields.Fields.Fields}
 use Rattle.irig_recording.specs.declared.pulse.Pulse.{Pulse}
 use Rattle.irig_times.specs.Times.{time_in}
 use Rattle.irig_law.specs.{Clocks.clock_of, Clocks.slack_of, Denials.seen_after}
-use Rattle.irig_law.specs.Denials.{seen_before}
-use Rattle.irig_law.specs.Printed.{CountsOn, IsShown}
-use Rattle.irig_law.specs.Rows.{rise_in, row_after, row_before, runs_in}
-use Rattle.irig_law.specs.{Sides.Denies, Stretches.first_denials, Stretches.second_denials}
-use Rattle.irig_law.specs.Truth.{Sent}
-use Rattle.irig_law.specs.declared.frame.Frame.{Frame}
-use Rattle.irig_law.specs.declared.names.Seen.TheVariants.{Named}
+use Rattle.irig_law.specs.{Denials.seen_before, Printed.CountsOn, Printed.IsShown, Rows.rise_in}
+use Rattle.irig_law.specs.{Rows.row_after, Rows.row_before, Rows.runs_in, Law.Denies}
+use Rattle.irig_law.specs.{Stretches.first_denials, Stretches.second_denials, Truth.Sent}
+use Rattle.irig_law.specs.{declared.frame.Frame.Frame, declared.names.Seen.TheVariants.Named}
 
--- Of the pulses after a frame's marker those with a name were sent. `name` is the number of the
--- element that was sent when each pulse of the recording rose, `moment` when each element rises.
-abbrev pub SentAfter : FormatView → List Pulse → ℕ → Frame → ℕ → (ℕ → ℕ) → (ℕ → ℕ) → Type 0
-SentAfter f ps slack a last moment name =
-    Sent (clock_of f ps a slack) (rise_in ps (row_after a)) (runs_in f ps (row_after a)) moment
-    (λ i. name (a.marker + i)) last
+module _ (f : FormatView) (ps : List Pulse) (slack : ℕ) (p : Frame) (last : ℕ)
+    (moment name : ℕ → ℕ) where
+  -- Of the pulses after a frame's marker those with a name were sent. `name` is the number of the
+  -- element that was sent when each pulse of the recording rose, `moment` when each element rises.
+  abbrev pub SentAfter : Type 0
+  SentAfter =
+      Sent (clock_of f ps p slack) (rise_in ps (row_after p)) (runs_in f ps (row_after p)) moment
+      (λ i. name (p.marker + i)) last
 
--- the same of those before it: elements and moments are counted back from its marker
-abbrev pub SentBefore : FormatView → List Pulse → ℕ → Frame → ℕ → (ℕ → ℕ) → (ℕ → ℕ) → Type 0
-SentBefore f ps slack b last moment name =
-    Sent (clock_of f ps b slack) (rise_in ps (row_before b)) (runs_in f ps (row_before b))
-    (λ e. moment (name b.marker) - moment (name b.marker - e))
-    (λ i. name b.marker - name (b.marker - i)) last
+  -- the same of those before it: elements and moments are counted back from its marker
+  abbrev pub SentBefore : Type 0
+  SentBefore =
+      Sent (clock_of f ps p slack) (rise_in ps (row_before p)) (runs_in f ps (row_before p))
+      (λ e. moment (name p.marker) - moment (name p.marker - e))
+      (λ i. name p.marker - name (p.marker - i)) last
 
 -- No event was between two frames: both are undamaged, the sender counted on, each pulse with a
 -- name was sent, and the recorder's clock ran as the two frames show.

@@ -1,37 +1,29 @@
 -- THE LAW OF TIME between two believed frames next to each other: which element each pulse is, if
 -- that is known. A stretch goes from the marker of the first frame to the last element of the
 -- second one that carries its time. This project's own.
-use Rattle.std.specs.Prelude.{ℕ, zero, suc, ◌+◌, ◌-◌, ◌==◌, nat_le}
-use Rattle.std.specs.Prelude.{Bool, true, List, [], ◌∷◌, Option, Some, None, if◌then◌else◌}
+use Rattle.std.specs.Prelude.{ℕ, zero, suc, ◌+◌, ◌-◌, ◌==◌, nat_le, Bool, true, List, [], ◌∷◌}
+use Rattle.std.specs.Prelude.{Option, Some, None, if◌then◌else◌}
 use Rattle.irig_codes.specs.Format.{FormatView}
 use Rattle.irig_recording.specs.declared.pulse.Pulse.{Pulse}
 use Rattle.irig_times.specs.TimedElements.{time_elements}
 use Rattle.irig_law.specs.{Clocks.slack_of, Denials.denies_first, Denials.denies_second}
-use Rattle.irig_law.specs.{Elements.element_after}
-use Rattle.irig_law.specs.{Elements.element_before}
-use Rattle.irig_law.specs.declared.point.Point.{Point}
-use Rattle.irig_law.specs.declared.frame.Frame.{Frame}
-use Rattle.irig_law.specs.declared.names.Seen.{Seen}
-use Rattle.irig_law.specs.declared.names.Seen.TheVariants.{Named, Astray, Unknown}
+use Rattle.irig_law.specs.Elements.{element_after, element_before}
+use Rattle.irig_law.specs.{declared.point.Point.Point, declared.frame.Frame.Frame}
+use Rattle.irig_law.specs.{declared.names.Seen.Seen, declared.names.Seen.TheVariants.Named}
 
 -- the element of what is seen by the first frame, or by the second one
 abbrev pub named_after : FormatView → Frame → Seen → Option Point
 named_after f a (Named e) = element_after f a e
-named_after f a Astray = None
-named_after f a Unknown = None
+named_after f a other = None
 
 abbrev pub named_before : FormatView → Frame → Seen → Option Point
 named_before f b (Named e) = element_before f b e
-named_before f b Astray = None
-named_before f b Unknown = None
+named_before f b other = None
 
 -- names after the first frame and before the second one are of one element, if both are known
 abbrev pub are_alike : ℕ → Seen → Seen → Bool
 are_alike whole (Named e) (Named g) = e + g == whole
-are_alike whole (Named e) Astray = true
-are_alike whole (Named e) Unknown = true
-are_alike whole Astray s = true
-are_alike whole Unknown s = true
+are_alike whole s t = true
 
 abbrev pub first_of : Option Point → Option Point → Option Point
 first_of None y = y

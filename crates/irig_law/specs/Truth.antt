@@ -1,8 +1,7 @@
 -- When the names of pulses are the elements that were sent: what the recorder did, and what follows
 -- of it. This project's own.
 use Rattle.std.specs.Prelude.{◌≡◌, ℕ, ◌+◌, ◌-◌, ◌*◌, ◌<◌, ◌≤◌, Bool, Some}
-use Rattle.irig_law.specs.{Hop.Within, Hop.hop, Names.seen}
-use Rattle.irig_law.specs.declared.clock.Clock.{Clock}
+use Rattle.irig_law.specs.{Names.Within, Names.hop, Names.seen, declared.clock.Clock.Clock}
 use Rattle.irig_law.specs.declared.names.Seen.TheVariants.{Named}
 
 -- The elements from one to another rise at these moments of a recording that lost nothing between

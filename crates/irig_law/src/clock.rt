@@ -1,7 +1,7 @@
 //! How many elements a distance between two rises is, by the recorder's clock.
 
 ghost use Rattle.std.specs.Prelude.{◌≡◌, ◌<◌, ◌≤◌, ◌^◌, IfSome};
-ghost use Rattle.irig_law.specs.Hop.{hop, is_near, is_sure, nearest};
+ghost use Rattle.irig_law.specs.Names.{hop, is_near, is_sure, nearest};
 
 /// The least that the 99 intervals of a frame last in any format, in microseconds.
 const SHORTEST: u64 = 8_192;

@@ -3,7 +3,7 @@
 
 ghost use Rattle.std.specs.Prelude.{◌≡◌, ◌<◌, ◌^◌, ℕ, IfSome, slice_get};
 ghost use Rattle.irig_law.specs.Denials.{denies_named, denies_seen, is_denied, is_unlike};
-ghost use Rattle.irig_law.specs.Wanted.{IsKept};
+ghost use Rattle.irig_law.specs.Elements.{IsKept};
 
 use crate::frame::Frame;
 use crate::names::Seen;

@@ -7,7 +7,7 @@ ghost use Rattle.std.specs.Prelude.{get_or, length};
 ghost use Rattle.irig_law.specs.Clocks.{slack_of};
 ghost use Rattle.irig_law.specs.Happened.{AreDenials, is_doubtful_in};
 ghost use Rattle.irig_law.specs.Quiet.{denied_at, denied_frame, denying, one_of};
-ghost use Rattle.irig_law.specs.{Seens.SeenAfter, Seens.SeenBefore, Wanted.IsKept};
+ghost use Rattle.irig_law.specs.{Seens.SeenAfter, Seens.SeenBefore, Elements.IsKept};
 
 use crate::denials::is_denied;
 use crate::frame::Frame;

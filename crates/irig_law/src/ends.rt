@@ -5,9 +5,9 @@
 
 ghost use Rattle.std.specs.Prelude.{◌≡◌, ◌↔◌, ◌<◌, ◌≤◌, ◌+◌, ◌-◌, ◌^◌, ℕ, IfOk, IsTrue, Some, length};
 ghost use Rattle.std.specs.Prelude.{Option, false, if◌then◌else◌, is_some, min, slice_get};
-ghost use Rattle.irig_law.specs.{Denials.denies_named, EndPoints.begin_of, EndPoints.end_of};
+ghost use Rattle.irig_law.specs.{Denials.denies_named, Seens.begin_of, Seens.end_of};
 ghost use Rattle.irig_law.specs.Ends.{IsAfterLast, IsBeforeFirst, IsSure, seen_at_end};
-ghost use Rattle.irig_law.specs.{Parts.points_end, Rows.place_in};
+ghost use Rattle.irig_law.specs.{Points.points_end, Rows.place_in};
 ghost use Rattle.irig_times.specs.TimedElements.{time_elements};
 
 use crate::clocks::{clock_of, end_slack};

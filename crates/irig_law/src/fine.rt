@@ -2,7 +2,7 @@
 
 ghost use Rattle.std.specs.Prelude.{◌≡◌, ◌<◌, ◌≤◌, ◌^◌, ◌++◌, IfOk, List, OnOk};
 ghost use Rattle.irig_index.specs.Frames.{frames};
-ghost use Rattle.irig_law.specs.Fine.{fine_at, fine_frames, rise_of, with_fine};
+ghost use Rattle.irig_law.specs.Chains.{fine_at, fine_frames, rise_of, with_fine};
 ghost use Rattle.irig_law.specs.declared.fine.Fine.{Fine};
 ghost use Rattle.irig_times.specs.Times.{time_in};
 

@@ -10,7 +10,7 @@ ghost use Rattle.irig_law.specs.Denials.{denies_first, denies_second};
 ghost use Rattle.irig_law.specs.Happened.{HasHappened};
 ghost use Rattle.irig_law.specs.Seens.{SeenAfter, SeenBefore};
 ghost use Rattle.irig_law.specs.Stretches.{first_denials, second_denials, stretch};
-ghost use Rattle.irig_law.specs.Wanted.{IsKept};
+ghost use Rattle.irig_law.specs.Elements.{IsKept};
 
 use crate::denials::{denies_seen, is_denied};
 use crate::fits::fits;

@@ -1,8 +1,8 @@
 //! When the law of time gives true times.
 
 ghost use Rattle.irig_law.specs.{Holes.HolesAreBounded, Theorem.TimesAreTrue};
-ghost use Rattle.irig_law.specs.{Truth.HopsAreTrue, Truth.NamesAreSent, Theorems.BeginTimesAreTrue};
-ghost use Rattle.irig_law.specs.Theorems.{EndTimesAreTrue, EventfulTimesAreTrue, QuietTimesAreTrue};
+ghost use Rattle.irig_law.specs.{Truth.HopsAreTrue, Truth.NamesAreSent, Theorem.BeginTimesAreTrue};
+ghost use Rattle.irig_law.specs.Theorem.{EndTimesAreTrue, EventfulTimesAreTrue, QuietTimesAreTrue};
 
 /// Does nothing. Its contract is what holds of each recording.
 ///

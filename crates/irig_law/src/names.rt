@@ -4,7 +4,7 @@
 
 ghost use Rattle.std.specs.Prelude.{◌≡◌, ◌<◌, ◌≤◌, ◌+◌, ◌^◌, ℕ, IfOk, Some, length, slice_get};
 ghost use Rattle.std.specs.Prelude.{true};
-ghost use Rattle.irig_law.specs.Hop.{hop};
+ghost use Rattle.irig_law.specs.Names.{hop};
 ghost use Rattle.irig_law.specs.Names.{judged, moved, seen, seen_at};
 ghost use Rattle.irig_law.specs.Rows.{rise_in, runs_in};
 

@@ -5,7 +5,7 @@
 ghost use Rattle.std.specs.Prelude.{◌≡◌, ◌↔◌, ◌<◌, ◌≤◌, ◌+◌, ◌-◌, ◌^◌, ℕ, IfOk, Some, length};
 ghost use Rattle.std.specs.Prelude.{slice_get};
 ghost use Rattle.irig_codes.specs.declared.fields.Fields.{Fields};
-ghost use Rattle.irig_law.specs.Parts.{AreJoined, ArePoints, AreSaid, Knows, points_end, part_begin};
+ghost use Rattle.irig_law.specs.Points.{AreJoined, ArePoints, AreSaid, Knows, points_end, part_begin};
 ghost use Rattle.irig_law.specs.Points.{AreFrames, IsPoint};
 ghost use Rattle.irig_law.specs.Printed.{printed, true_time};
 ghost use Rattle.irig_law.specs.Theorem.{Story};

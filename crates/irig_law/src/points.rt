@@ -14,7 +14,7 @@ pub struct Points {
 }
 
 impl Points {
-    ghost use Rattle.irig_law.specs.Parts.{Knows, points_end};
+    ghost use Rattle.irig_law.specs.Points.{Knows, points_end};
     ghost use Rattle.irig_law.specs.declared.point.Point.{Point};
 
     /// Of no pulse.

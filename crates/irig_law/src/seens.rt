@@ -4,7 +4,7 @@
 
 ghost use Rattle.std.specs.Prelude.{◌≡◌, ◌↔◌, ◌<◌, ◌≤◌, ◌-◌, ◌^◌, ℕ, Bool, IfOk, IsTrue, Some};
 ghost use Rattle.std.specs.Prelude.{length, slice_get};
-ghost use Rattle.irig_law.specs.EndPoints.{AreInStep};
+ghost use Rattle.irig_law.specs.Seens.{AreInStep};
 ghost use Rattle.irig_law.specs.Names.{seen, walk};
 ghost use Rattle.irig_law.specs.Seens.{SeenAfter, SeenBefore};
 ghost use Rattle.irig_law.specs.declared.clock.Clock.{Clock};

@@ -1,7 +1,7 @@
 //! Which pulses of a stretch are before its one event, and which are after it.
 
 ghost use Rattle.std.specs.Prelude.{◌≡◌, ◌↔◌, ◌<◌, ◌≤◌, ◌+◌, ℕ, length};
-ghost use Rattle.irig_law.specs.Sides.{Denies, IsAfter, IsBefore, TwoAfter, TwoBefore};
+ghost use Rattle.irig_law.specs.Law.{Denies, IsAfter, IsBefore, TwoAfter, TwoBefore};
 
 /// The pulses before `until` are before the event, and those from `from` on are after it.
 #[derive(Clone, Copy)]

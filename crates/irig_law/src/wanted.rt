@@ -1,7 +1,7 @@
 //! The elements of the frame of a time, kept for the next pulse of that frame.
 
 ghost use Rattle.std.specs.Prelude.{◌≡◌, ◌<◌, IsTrue};
-ghost use Rattle.irig_law.specs.Wanted.{IsKept, IsWanted};
+ghost use Rattle.irig_law.specs.Elements.{IsKept, IsWanted};
 
 use irig_codes::{Element, Format, encode, fits};
 use irig_times::{Time, fields_at};

@@ -11,7 +11,6 @@ pub mod Endings
 pub mod DateSteps
 pub mod TakenBytes
 pub mod Added
-pub mod Known
 pub mod Places
 pub mod HeaderReads
 pub mod RunSteps

@@ -6,7 +6,7 @@ use Rattle.std.proofs.lemmas.{Bool.cases_Bool, Bool.leb-true, Option.none-some, 
 use Rattle.jiff_core.specs.Calendar.{days_in_month}
 use Rattle.jiff_core.proofs.CalendarLemmas.{days_in_month_bounds}
 use Rattle.irig_codes.specs.Format.{FormatView}
-use Rattle.irig_times.specs.{declared.time.Time.Time, Laws.IsOfCalendar}
+use Rattle.irig_times.specs.{declared.time.Time.Time, Times.IsOfCalendar}
 use Rattle.irig_timed.proofs.Kept.{timed_calendar, timed_minute}
 use Rattle.irig_stamps.specs.Printed.{AreTimes, CalendarTells, OrdinalTells, SecondsTell, day_micros}
 use Rattle.irig_stamps.specs.Texts.{calendar_text, clock_text, date_text, day_seconds, ordinal_text, year_text}

@@ -10,7 +10,8 @@ use Rattle.irig_track.specs.Looks.{counted}
 use Rattle.irig_stamps.specs.Steps.{GoesOn, PrintsAll, Stops, Takes, TakesAs, TakesUpTo, Underway}
 use Rattle.irig_stamps.specs.declared.fault.RunFault.TheVariants.{PrintFailed, ReadFailed, TooLong, OutOfMemory}
 use Rattle.irig_stamps.specs.Runs.{Broke, IsCause, Ran, ending_of}
-use Rattle.irig_stamps.specs.{Front.AppendsFront, Stamped.Stamped, declared.fault.PrintFault.PrintFault, declared.fault.RunFault.RunFault}
+use Rattle.irig_print.specs.{Front.AppendsFront, declared.output.PrintFault.PrintFault}
+use Rattle.irig_stamps.specs.{Stamped.Stamped, declared.fault.RunFault.RunFault}
 use Rattle.irig_stamps.specs.{declared.fault.TakeFault.TakeFault, declared.progress.Progress.Progress, declared.settings.Settings.Settings}
 use Rattle.irig_stamps.specs.declared.fault.TakeFault.TheVariants as take
 use Rattle.irig_stamps.specs.{Tallies.no_tally, declared.tally.Tally.Tally}

@@ -8,7 +8,8 @@ use Rattle.irig_track.specs.Edges.{edges_of}
 use Rattle.irig_times.specs.declared.why.Why.{Why}
 use Rattle.irig_timed.specs.Reasons.{HasNoTime}
 use Rattle.irig_stamps.specs.declared.fault.RunFault.TheVariants.{PrintFailed, OutOfMemory}
-use Rattle.irig_stamps.specs.{Aligned.standing_of, Front.AppendsFront, HoleRows.rows}
+use Rattle.irig_print.specs.Front.{AppendsFront}
+use Rattle.irig_stamps.specs.{Aligned.standing_of, HoleRows.rows}
 use Rattle.irig_stamps.specs.{Holes.AreHoles, Joined.total, declared.fault.RunFault.RunFault}
 use Rattle.irig_stamps.specs.{declared.holes.Holes.Holes, declared.pending.Pending.Pending}
 use Rattle.irig_stamps.specs.{declared.settings.Settings.Settings, declared.stretch.Stretch.Stretch}

@@ -2,7 +2,6 @@ pub mod Aligned
 pub mod Columns
 pub mod Dates
 pub mod Exponents
-pub mod Front
 pub mod HeaderSteps
 pub mod HeaderUnits
 pub mod Looks

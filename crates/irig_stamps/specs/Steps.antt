@@ -6,9 +6,9 @@ use Rattle.irig_codes.specs.Format.{FormatView}
 use Rattle.irig_recording.specs.declared.pulse.Pulse.{Pulse}
 use Rattle.irig_track.specs.Looks.{counted}
 use Rattle.irig_stamps.specs.declared.fault.RunFault.TheVariants.{PrintFailed, TooLong, OutOfMemory}
-use Rattle.irig_stamps.specs.{Front.AppendsFront, Runs.Broke, Runs.Ran, Stamped.Stamped}
+use Rattle.irig_print.specs.{Front.AppendsFront, declared.output.PrintFault.PrintFault}
+use Rattle.irig_stamps.specs.{Runs.Broke, Runs.Ran, Stamped.Stamped, declared.tally.Tally.Tally}
 use Rattle.irig_stamps.specs.{declared.fault.RunFault.RunFault, declared.fault.TakeFault.TakeFault}
-use Rattle.irig_stamps.specs.{declared.fault.PrintFault.PrintFault, declared.tally.Tally.Tally}
 use Rattle.irig_stamps.specs.{declared.progress.Progress.Progress, declared.settings.Settings.Settings}
 use Rattle.irig_stamps.specs.declared.fault.TakeFault.TheVariants as take
 

@@ -9,7 +9,8 @@ use Rattle.irig_recording.specs.declared.pulse.Pulse.{Pulse}
 use Rattle.irig_track.specs.Edges.{edges_of}
 use Rattle.irig_times.specs.{Starts.IsStartOf, declared.start.FrameStart.FrameStart}
 use Rattle.irig_stamps.specs.declared.fault.RunFault.TheVariants.{PrintFailed, OutOfMemory}
-use Rattle.irig_stamps.specs.{Aligned.standing_of, Front.AppendsFront}
+use Rattle.irig_print.specs.Front.{AppendsFront}
+use Rattle.irig_stamps.specs.{Aligned.standing_of}
 use Rattle.irig_stamps.specs.TrackSettings.{held_of, with_first_day}
 use Rattle.irig_stamps.specs.{Texts.word_of, declared.fault.RunFault.RunFault}
 use Rattle.irig_stamps.specs.declared.settings.Settings.{Settings}

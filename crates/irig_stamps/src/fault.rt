@@ -1,5 +1,6 @@
 //! Why a run over lines is broken off.
 
+use irig_print::PrintFault;
 use thiserror::Error;
 
 /// Why a run over lines was broken off.
@@ -23,15 +24,6 @@ pub enum RunFault {
     NoColumn,
     #[error("two columns of the header have this name")]
     TwoColumns,
-}
-
-/// Why the output failed.
-#[derive(Clone, Copy, Debug)]
-pub enum PrintFault {
-    /// It is a pipe that nobody reads any more, as that to `head`.
-    Closed,
-    /// Any other reason, as a full disk.
-    Other,
 }
 
 /// Why a line was not taken.

@@ -36,7 +36,7 @@ mod unit_names;
 mod untimed;
 
 pub use aligning::align;
-pub use fault::{PrintFault, RunFault};
+pub use fault::RunFault;
 pub use hole_list::list_holes;
 pub use holes::Holes;
 pub use law::{digits_tell_times, printed_times_are_true};

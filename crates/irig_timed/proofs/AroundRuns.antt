@@ -9,9 +9,9 @@ use Rattle.irig_times.specs.{Steps.micros_between}
 use Rattle.irig_times.specs.declared.why.Why.TheVariants.{Step}
 use Rattle.irig_times.proofs.SameTimes.{same-time}
 use Rattle.irig_law.specs.{Fits.periods_apart, declared.frame.Frame.Frame}
-use Rattle.irig_timed.specs.{Apart.elements_after, Apart.elements_by, Bends.bends_over, Gaps.gap_between, Gaps.gap_over}
+use Rattle.irig_timed.specs.{Line.elements_after, Line.elements_by, Bends.bends_over, Gaps.gap_between, Gaps.gap_over}
 use Rattle.irig_timed.specs.{Gaps.is_free, Gaps.is_step, Knowns.IsKnownIn, Moments.IsElement, Reasons.has_doubtful, Reasons.with_doubt}
-use Rattle.irig_timed.specs.{Stretches.stretch_at, Surroundings.IsAround}
+use Rattle.irig_timed.specs.{Stretches.stretch_at, Knowns.IsAround}
 use Rattle.irig_timed.specs.Runs.{IsIn, IsRun, RunsBy, nth_of, place_at, place_before}
 use Rattle.irig_timed.specs.declared.{gap.Gap.Gap, run.Place.Place, run.Run.Run}
 use Rattle.irig_timed.specs.declared.gap.Gap.TheVariants.{Line, Untimed}

@@ -11,7 +11,6 @@ mod Surround
 mod AroundRuns
 mod MomentFacts
 mod Widest
-mod BendLists
 -- times that are true
 mod NearLines
 mod StrayLines

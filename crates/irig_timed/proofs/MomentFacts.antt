@@ -9,9 +9,9 @@ use Rattle.irig_track.specs.{Splices.risen_by, Track.IsLongTrack}
 use Rattle.irig_track.proofs.Searches.{risen_above, risen_below}
 use Rattle.irig_times.specs.declared.time.Time.{Time}
 use Rattle.irig_law.specs.declared.{frame.Frame.Frame, point.Point.Point}
-use Rattle.irig_timed.specs.{Apart.elements_after, Around.AreAround, Gaps.gap_between, Knowns.IsKnownIn}
+use Rattle.irig_timed.specs.{Line.elements_after, Around.AreAround, Gaps.gap_between, Knowns.IsKnownIn}
 use Rattle.irig_timed.specs.{Line.counts_to, Line.is_in_hour, Line.since_hour, Line.time_on, Moments.IsElement, Moments.IsMomentBy, Moments.IsMomentOn}
-use Rattle.irig_timed.specs.{Reasons.gap_with, Reasons.has_doubtful, Reasons.with_doubt, Surroundings.IsAround, Surroundings.IsLine}
+use Rattle.irig_timed.specs.{Reasons.gap_with, Reasons.has_doubtful, Reasons.with_doubt, Knowns.IsAround, Knowns.IsLine}
 use Rattle.irig_timed.specs.declared.{around.Around.Around, gap.Gap.Gap, run.Place.Place, run.Run.Run}
 use Rattle.irig_timed.specs.declared.gap.Gap.TheVariants.{Line, Untimed}
 use Rattle.irig_timed.proofs.{RunPlaces.in-once, Surround.first-once, Surround.last-once}

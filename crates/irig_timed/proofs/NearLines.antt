@@ -5,8 +5,8 @@ use Rattle.std.proofs.Math.Nat.{lt-mul-div-succ, mul-div-le, mul-le-mul_left}
 use Rattle.std.proofs.lemmas.Bool.{cases_lt}
 use Rattle.irig_codes.specs.{Format.FormatView, Format.interval_of, declared.format.Kind.Kind}
 use Rattle.irig_codes.specs.declared.format.Kind.TheVariants.{A, B, E, G}
-use Rattle.irig_law.specs.{Holes.units_of, Holes.Rate, Holes.HolesAreBounded}
-use Rattle.irig_timed.specs.{Bends.units_in, Gaps.most_off, Line.over_in, Truths.PassesNearly}
+use Rattle.irig_law.specs.{Holes.units_of, Holes.Hole, Holes.Rate, Holes.HolesAreBounded}
+use Rattle.irig_timed.specs.{Bends.units_in, Gaps.most_off, Line.over_in, Truths.IsOver}
 
 pub unscaled : (k a b : ℕ) → 0 < k → k * a ≤ k * b → a ≤ b
 unscaled k a b some le = elim (cases_lt b a) [
@@ -44,7 +44,7 @@ whole-units E n = omega arith
 whole-units G n = omega arith
 
 pub passes_nearly : HolesAreBounded → (f : FormatView) (r : Rate) (long n bound d x : ℕ) → 0 < d * long → x ≤ d * long → bound ≡ most_off r long (units_of n)
-    → PassesNearly f r long n bound d x (over_in f n x (d * long))
+    → (passed : ℕ → ℕ) → Hole r (d * long) (d * units_of n) passed → IsOver f bound d (passed x) (over_in f n x (d * long))
 passes_nearly bridges f r long n bound d x some le is passed hole =
     let all = d * long in
     let y = all - x in

@@ -9,7 +9,7 @@ use Rattle.irig_track.specs.Track.{IsLongTrack}
 use Rattle.irig_times.specs.declared.time.Time.{Time}
 use Rattle.irig_law.specs.{Holes.units_of, Hours.hour_micros, Printed.true_time}
 use Rattle.irig_law.specs.declared.{frame.Frame.Frame}
-use Rattle.irig_timed.specs.{Apart.elements_after, Bends.bends_over, Bends.micros_up, Bends.off_over, Moments.IsMomentBy, Moments.frames_by}
+use Rattle.irig_timed.specs.{Line.elements_after, Bends.bends_over, Bends.micros_up, Bends.off_over, Moments.IsMomentBy, Moments.frames_by}
 use Rattle.irig_timed.specs.Line.{in_hour, is_back, over_in, since_hour}
 use Rattle.irig_timed.specs.NearTimes.{IsNear, Passes, TimesAreNear}
 use Rattle.irig_timed.specs.TrueMoments.{MomentsAreNear}

@@ -23,9 +23,6 @@ run-longer f ps n m r le run = record {
   steps = run.steps;
 }
 
-pub runs-longer : (f : FormatView) (ps : List Pulse) (n m : ℕ) (runs : List Run) → n ≤ m → AreRunsTo f ps n runs → AreRunsTo f ps m runs
-runs-longer f ps n m runs le are = record { each = λ i r at. run-longer f ps n m r le (are.each i r at); order = are.order }
-
 -- and of a shorter one, as far as their pulses go
 pub runs-within : (f : FormatView) (ps : List Pulse) (n m : ℕ) (runs : List Run) → AreRunsTo f ps n runs
     → ((k : ℕ) (x : Point) → IsIn runs k x → k < m) → AreRunsTo f ps m runs
@@ -42,13 +39,6 @@ runs-within f ps n m runs are below = record {
         steps = run.steps;
       });
   order = are.order;
-}
-
-pub with-none : (f : FormatView) (ps : List Pulse) (n : ℕ) (runs : List Run) → AreRunsTo f ps n runs → IsWith f ps runs runs n None
-with-none f ps n runs are = record {
-  runs = runs-longer f ps n (n + 1) runs (omega arith) are;
-  here = λ x. (λ a. absurd (let low = in-low f ps n runs are n x a in omega (arith, low.0)), λ e. absurd (none-some x e));
-  others = λ k x ne. (λ a. a, λ a. a);
 }
 
 -- one more run

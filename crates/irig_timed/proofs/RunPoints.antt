@@ -5,7 +5,7 @@ use Rattle.std.proofs.lemmas.Bool.{cases_Bool, cases_eq, cases_lt}
 use Rattle.std.proofs.lemmas.Option.{none-some}
 use Rattle.irig_codes.specs.Format.{FormatView}
 use Rattle.irig_recording.specs.declared.pulse.Pulse.{Pulse}
-use Rattle.irig_law.specs.Parts.{ArePoints, Knows, part_begin}
+use Rattle.irig_law.specs.Points.{ArePoints, Knows, part_begin}
 use Rattle.irig_law.specs.declared.{frame.Frame.Frame, point.Point.Point, points.Points.Points}
 use Rattle.irig_timed.specs.Elements.{AreWith, IsWith, kept}
 use Rattle.irig_timed.specs.{Line.is_in_hour, Moments.IsElement, Runs.AreRunsTo, Runs.IsIn}

@@ -7,8 +7,8 @@ use Rattle.irig_recording.specs.declared.pulse.Pulse.{Pulse}
 use Rattle.irig_track.specs.Splices.{risen_by}
 use Rattle.irig_times.specs.declared.why.Why.{Why}
 use Rattle.irig_law.specs.declared.frame.Frame.{Frame}
-use Rattle.irig_timed.specs.{Held.held, Knowns.IsKnownIn, Moments.frames_by, ReasonLaws.NoneIffWhy, ReasonLaws.OneWhy}
-use Rattle.irig_timed.specs.{Reasons.IsWhyBy, Reasons.reason_in, Runs.AreRunsTo, Runs.RunsBy, Surroundings.IsAround}
+use Rattle.irig_timed.specs.{Held.held, Knowns.IsKnownIn, Moments.frames_by, Knowns.NoneIffWhy, Knowns.OneWhy}
+use Rattle.irig_timed.specs.{Reasons.IsWhyBy, Reasons.reason_in, Runs.AreRunsTo, Runs.RunsBy, Knowns.IsAround}
 use Rattle.irig_timed.specs.Runs.{nth_of, place_at, place_before}
 use Rattle.irig_timed.specs.declared.{around.Around.Around, gap.Gap.Gap, run.Run.Run}
 use Rattle.irig_timed.proofs.{AroundRuns.between-is, AroundRuns.inside-is, OneReason.one_why, RunPlaces.none-run, RunPlaces.runs_to_here}

@@ -7,9 +7,9 @@ use Rattle.irig_codes.specs.{Format.FormatView, Format.interval_of}
 use Rattle.irig_recording.specs.declared.pulse.Pulse.{Pulse}
 use Rattle.irig_times.specs.Steps.{apart, micros_between}
 use Rattle.irig_law.specs.{Holes.units_of, declared.frame.Frame.Frame}
-use Rattle.irig_timed.specs.Strays.{greatest, line_off, most_after, strays_in, strays_most}
+use Rattle.irig_timed.specs.Strays.{line_off, most_after, strays_in, strays_most}
 use Rattle.irig_timed.specs.Alike.{HasTaken, HoleAs, RunsAs}
-use Rattle.irig_timed.specs.{Bends.units_in, Line.over_in, Truths.PassesAlike, Strays.strays_over}
+use Rattle.irig_timed.specs.{Bends.greatest, Bends.units_in, Line.over_in, Truths.IsOver, Strays.strays_over}
 use Rattle.irig_timed.proofs.NearLines.{unscaled, whole-units}
 
 -- the greatest number is at least each
@@ -163,7 +163,8 @@ passes-by long d above passed bound some le more = elim (cases_lt (passed + d * 
 ]
 
 pub passes_alike : (f : FormatView) (ps : List Pulse) (a b : Frame) (long n bound d x : ℕ) → 0 < d → 0 < d * long → x ≤ d * long
-    → strays_over ps long n a b + 1 ≤ bound → PassesAlike f ps a b long n bound d x (over_in f n x (d * long))
+    → strays_over ps long n a b + 1 ≤ bound → (passed : ℕ → ℕ) → HoleAs ps a b n d long passed
+    → IsOver f bound d (passed x) (over_in f n x (d * long))
 passes_alike f ps a b long n bound d x begun some le is passed hole =
     let all = d * long in
     let micros = n * interval_of f.kind in

@@ -4,38 +4,10 @@ use Rattle.std.proofs.lemmas.Bool.{cases_lt, le-ltb, lt-ltb}
 use Rattle.std.proofs.lemmas.Option.{same_Some, slice_get-get_or, slice_get_within}
 use Rattle.irig_recording.specs.declared.pulse.Pulse.{Pulse}
 use Rattle.irig_law.specs.{Points.AreFrames, declared.frame.Frame.Frame}
-use Rattle.irig_timed.specs.{Bends.frame_before, Bends.last_by, Bends.last_from, Bends.next_by}
-use Rattle.irig_timed.specs.Stretches.{FramesUpTo, pair_at, stretch_at, stretch_from}
+use Rattle.irig_timed.specs.Stretches.{FramesUpTo, frame_before, last_by, last_from, next_by}
 
 abbrev pub none-frame : Frame
 none-frame = record { marker = 0; time = record { year = None; days = 0; hours = 0; minutes = 0; micros = 0 } }
-
-from-pair : (a : Frame) (frames : List Frame) (k c : ℕ) → FramesUpTo (a ∷ frames) k (suc c) → c ≤ length frames
-    → pair_at (a ∷ frames) (suc c) ≡ stretch_from a frames k
-from-pair a [] k zero h few = refl
-from-pair a [] k (suc c) h few = absurd (omega (arith, few))
-from-pair a (b ∷ frames) k zero h few =
-    let later = h.after 1 b refl (omega arith) in
-    sym (ap (λ v. cond v (Some (a, b)) (stretch_from b frames k)) (lt-ltb k b.marker later))
-from-pair a (b ∷ frames) k (suc c) h few =
-    let begun = h.before 1 b refl (omega arith) in
-    let rest : FramesUpTo (b ∷ frames) k (suc c) = record {
-      before = λ i x at less. h.before (suc i) x at (omega (arith, less));
-      after = λ i x at le. h.after (suc i) x at (omega (arith, le));
-    } in
-    from-pair b frames k c rest (omega (arith, few))
-    ∙ sym (ap (λ v. cond v (Some (a, b)) (stretch_from b frames k)) (le-ltb k b.marker begun))
-
-pub stretch-pair : (frames : List Frame) (k many : ℕ) → FramesUpTo frames k many → many ≤ length frames → pair_at frames many ≡ stretch_at frames k
-stretch-pair [] k zero h few = refl
-stretch-pair [] k (suc c) h few = absurd (omega (arith, few))
-stretch-pair (a ∷ frames) k zero h few =
-    let later = h.after 0 a refl (omega arith) in
-    sym (ap (λ v. cond v None (stretch_from a frames k)) (lt-ltb k a.marker later))
-stretch-pair (a ∷ frames) k (suc c) h few =
-    let begun = h.before 0 a refl (omega arith) in
-    from-pair a frames k c h (omega (arith, few))
-    ∙ sym (ap (λ v. cond v None (stretch_from a frames k)) (le-ltb k a.marker begun))
 
 -- the last of them, and the first one after it
 later-frames : (a : Frame) (frames : List Frame) (k c : ℕ) → FramesUpTo (a ∷ frames) k (suc c) → FramesUpTo frames k c

@@ -6,10 +6,10 @@ use Rattle.std.proofs.lemmas.Option.{none-some, same_Some, slice_get-get_or, sli
 use Rattle.irig_codes.specs.{Format.FormatView, Format.frame_period_of, Format.has_year, declared.fields.Fields.Fields}
 use Rattle.irig_recording.specs.declared.pulse.Pulse.{Pulse}
 use Rattle.irig_index.specs.{Frames.frame_at, Frames.frames, declared.record.Record.Record}
-use Rattle.irig_times.specs.{Laws.IsOfCalendar, Times.time_in, Times.timed, declared.time.Time.Time}
+use Rattle.irig_times.specs.{Times.IsOfCalendar, Times.time_in, Times.timed, declared.time.Time.Time}
 use Rattle.irig_times.proofs.{Calendar.of-calendar, Records.frame-reads}
 use Rattle.irig_law.specs.{Believed.believed, Believed.believed_in, Believed.chain_after, Believed.kept, Believed.kept_from, Believed.with_frame}
-use Rattle.irig_law.specs.{Chains.chains_of, Ends.IsBeforeFirst, Fine.fine_frames, Fine.fine_in, Fine.with_fine, Law.IsBetween, OfOne.is_right, Points.IsPoint}
+use Rattle.irig_law.specs.{Chains.chains_of, Ends.IsBeforeFirst, Chains.fine_frames, Chains.fine_in, Chains.with_fine, Law.IsBetween, OfOne.is_right, Points.IsPoint}
 use Rattle.irig_law.specs.{Elements.element_after, Elements.element_at, Elements.element_before, Hours.at_hour, Hours.at_minute}
 use Rattle.irig_law.specs.{Hours.earlier_by, Hours.earlier_in_hour, Hours.hour_micros, Hours.later_by, Hours.later_in_hour}
 use Rattle.irig_law.specs.Stretches.{are_alike, by_second, first_of, middle_element, named_after, named_before}

@@ -11,7 +11,7 @@ use Rattle.irig_times.specs.declared.why.Why.TheVariants.{Hole, Step}
 use Rattle.irig_law.specs.{Holes.rate_of, Holes.units_of, Holes.Rate, Clocks.clock_of, Clocks.slack_of}
 use Rattle.irig_law.specs.declared.{frame.Frame.Frame}
 use Rattle.irig_law.specs.{Holes.HolesAreBounded, Theorem.TimesAreTrue}
-use Rattle.irig_timed.specs.{Apart.elements_after, Bends.bends_over, Bends.units_in, Moments.IsMomentBy, Stretches.stretch_at}
+use Rattle.irig_timed.specs.{Line.elements_after, Bends.bends_over, Bends.units_in, Moments.IsMomentBy, Stretches.stretch_at}
 use Rattle.irig_timed.specs.{Truths.MomentsAreTrue, Strays.strays_by, Strays.strays_over}
 use Rattle.irig_timed.specs.Gaps.{gap_by, gap_of, gap_over, is_event, is_free, is_step, most_off, off_in, widest}
 use Rattle.irig_timed.specs.declared.gap.Gap.{Gap}

@@ -7,7 +7,7 @@ use Rattle.irig_times.specs.Steps.{micros_between}
 use Rattle.irig_times.specs.declared.why.Why.TheVariants.{Hole, Step}
 use Rattle.irig_law.specs.{Holes.rate_of, Holes.units_of, Holes.Rate, Clocks.clock_of, Clocks.slack_of}
 use Rattle.irig_law.specs.declared.frame.Frame.{Frame}
-use Rattle.irig_timed.specs.{Apart.elements_after, Bends.bends_over, Stretches.stretch_at, Strays.strays_by}
+use Rattle.irig_timed.specs.{Line.elements_after, Bends.bends_over, Stretches.stretch_at, Strays.strays_by}
 use Rattle.irig_timed.specs.Gaps.{gap_between, gap_by, gap_over, is_event, is_free, is_step, off_in, widest}
 use Rattle.irig_timed.specs.declared.{gap.Gap.Gap, run.Place.Place}
 use Rattle.irig_timed.specs.declared.gap.Gap.TheVariants.{Line, Untimed}

@@ -1,10 +1,11 @@
 -- How far a printed time can be off, in microseconds. This project's own.
-use Rattle.std.specs.Prelude.{ℕ, zero, suc, ◌+◌, ◌-◌, ◌*◌, ◌/◌, ◌==◌, ◌&&◌, max, nat_lt, List, [], ◌∷◌}
-use Rattle.std.specs.Prelude.{Option, Some, None, slice_get, if◌then◌else◌}
+use Rattle.std.specs.Prelude.{ℕ, zero, suc, ◌+◌, ◌-◌, ◌*◌, ◌/◌, ◌==◌, ◌&&◌, max, List, Option, Some}
+use Rattle.std.specs.Prelude.{None, if◌then◌else◌}
 use Rattle.irig_codes.specs.{Format.FormatView, Format.interval_of, Width.is_in_step}
 use Rattle.irig_recording.specs.declared.pulse.Pulse.{Pulse}
 use Rattle.irig_times.specs.Steps.{micros_between}
 use Rattle.irig_law.specs.{Clocks.apart, declared.frame.Frame.Frame}
+use Rattle.irig_timed.specs.Stretches.{last_by, next_by}
 
 -- by how much two steps next to each other differ, if both are an interval, to a tenth
 abbrev pub bend_of : FormatView → ℕ → ℕ → ℕ
@@ -15,32 +16,18 @@ bend_of f one other =
 abbrev pub bend_at : FormatView → List Pulse → ℕ → ℕ
 bend_at f ps k = bend_of f (micros_between ps (k - 1) k) (micros_between ps k (k + 1))
 
--- the most of n pulses from one on
-abbrev pub most_from : FormatView → List Pulse → ℕ → ℕ → ℕ
-most_from f ps k zero = 0
-most_from f ps k (suc n) = max (bend_at f ps k) (most_from f ps (k + 1) n)
+-- the greatest of n numbers from one on
+abbrev pub greatest : (ℕ → ℕ) → ℕ → ℕ → ℕ
+greatest value k zero = 0
+greatest value k (suc n) = max (value k) (greatest value (k + 1) n)
 
 -- within a frame: of its elements but the first and the last
 abbrev pub most_within : FormatView → List Pulse → ℕ → ℕ
-most_within f ps marker = most_from f ps (marker + 1) (marker + 99 - (marker + 1))
+most_within f ps marker = greatest (bend_at f ps) (marker + 1) (marker + 99 - (marker + 1))
 
 abbrev pub most_in : FormatView → List Pulse → Option Frame → ℕ
 most_in f ps None = 0
 most_in f ps (Some a) = most_within f ps a.marker
-
--- the last of some frames that begins with a pulse or before it
-abbrev pub last_from : Frame → List Frame → ℕ → Frame
-last_from a [] k = a
-last_from a (b ∷ frames) k = if nat_lt k b.marker then a else last_from b frames k
-
-abbrev pub last_by : List Frame → ℕ → Option Frame
-last_by [] k = None
-last_by (a ∷ frames) k = if nat_lt k a.marker then None else Some (last_from a frames k)
-
--- the first that begins after it
-abbrev pub next_by : List Frame → ℕ → Option Frame
-next_by [] k = None
-next_by (a ∷ frames) k = if nat_lt k a.marker then Some a else next_by frames k
 
 -- in the two believed frames around a pulse
 abbrev pub most_around : FormatView → List Pulse → List Frame → ℕ → ℕ
@@ -66,8 +53,3 @@ bends_over f ps frames one other =
 abbrev pub off_over : FormatView → List Pulse → List Frame → ℕ → ℕ → ℕ → ℕ
 off_over f ps frames one other bound =
     micros_up f bound + bends_over f ps frames one other + 2
-
--- the frame before a place in a list, and the one there
-abbrev pub frame_before : List Frame → ℕ → Option Frame
-frame_before frames zero = None
-frame_before frames (suc c) = slice_get frames c

@@ -4,8 +4,7 @@ use Rattle.std.specs.Prelude.{None, slice_get, if◌then◌else◌}
 use Rattle.irig_codes.specs.{Format.FormatView, Width.is_in_step}
 use Rattle.irig_recording.specs.declared.pulse.Pulse.{Pulse}
 use Rattle.irig_times.specs.Steps.{micros_between}
-use Rattle.irig_law.specs.Parts.{Knows}
-use Rattle.irig_law.specs.declared.{point.Point.Point, points.Points.Points}
+use Rattle.irig_law.specs.{Points.Knows, declared.point.Point.Point, declared.points.Points.Points}
 use Rattle.irig_timed.specs.{Line.is_in_hour, Runs.AreRunsTo, Runs.IsIn, declared.run.Run.Run}
 
 -- what is not past the end of its hour

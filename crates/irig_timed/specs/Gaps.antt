@@ -4,14 +4,13 @@ use Rattle.std.specs.Prelude.{ℕ, ◌+◌, ◌-◌, ◌*◌, ◌==◌, ◌&&◌
 use Rattle.std.specs.Prelude.{List, Option, Some, None, if◌then◌else◌}
 use Rattle.irig_codes.specs.{Format.FormatView, Width.is_in_step}
 use Rattle.irig_recording.specs.declared.pulse.Pulse.{Pulse}
-use Rattle.irig_times.specs.Steps.{micros_between}
-use Rattle.irig_times.specs.declared.why.Why.TheVariants.{After, Before, Hole, Step}
+use Rattle.irig_times.specs.{Steps.micros_between, declared.why.Why.TheVariants.After}
+use Rattle.irig_times.specs.declared.why.Why.TheVariants.{Before, Hole, Step}
 use Rattle.irig_law.specs.{Clocks.clock_of, Clocks.slack_of, Holes.rate_of, Holes.units_of}
-use Rattle.irig_law.specs.{Holes.Rate, OfOne.any_from, Rows.is_clean}
-use Rattle.irig_law.specs.{declared.clock.Clock.Clock, declared.frame.Frame.Frame}
-use Rattle.irig_timed.specs.{Apart.elements_after, Bends.bends_over, Stretches.stretch_at}
-use Rattle.irig_timed.specs.Strays.{strays_by}
-use Rattle.irig_timed.specs.declared.gap.Gap.{Gap}
+use Rattle.irig_law.specs.{Holes.Rate, OfOne.any_from, Rows.is_clean, declared.clock.Clock.Clock}
+use Rattle.irig_law.specs.declared.frame.Frame.{Frame}
+use Rattle.irig_timed.specs.{Line.elements_after, Bends.bends_over, Stretches.stretch_at}
+use Rattle.irig_timed.specs.{Strays.strays_by, declared.gap.Gap.Gap}
 use Rattle.irig_timed.specs.declared.gap.Gap.TheVariants.{Line, Untimed}
 use Rattle.irig_timed.specs.declared.run.Place.{Place}
 

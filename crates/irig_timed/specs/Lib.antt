@@ -1,5 +1,4 @@
 pub mod Alike
-pub mod Apart
 pub mod Around
 pub mod Bends
 pub mod Elements
@@ -9,11 +8,9 @@ pub mod Knowns
 pub mod Line
 pub mod Moments
 pub mod NearTimes
-pub mod ReasonLaws
 pub mod Reasons
 pub mod Runs
 pub mod Strays
 pub mod Stretches
-pub mod Surroundings
 pub mod TrueMoments
 pub mod Truths

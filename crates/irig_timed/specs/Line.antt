@@ -1,9 +1,24 @@
--- The time on the line between two pulses that have one. This project's own.
-use Rattle.std.specs.Prelude.{ℕ, ◌+◌, ◌-◌, ◌*◌, ◌/◌, ◌&&◌, ◌||◌, nat_le, nat_lt, Bool, if◌then◌else◌}
-use Rattle.std.specs.Prelude.{min}
-use Rattle.irig_codes.specs.Format.{FormatView, interval_of}
-use Rattle.irig_times.specs.{Elements.share, declared.time.Time.Time}
-use Rattle.irig_law.specs.{Hours.hour_micros, declared.point.Point.Point}
+-- How many elements two pulses that have a time are apart, and the time on the line between them.
+-- This project's own.
+use Rattle.std.specs.Prelude.{ℕ, ◌+◌, ◌-◌, ◌*◌, ◌/◌, ◌&&◌, ◌||◌, nat_le, nat_lt, Bool}
+use Rattle.std.specs.Prelude.{if◌then◌else◌, min, Option, Some, None}
+use Rattle.irig_codes.specs.Format.{FormatView, interval_of, frame_period_of}
+use Rattle.irig_times.specs.{Starts.share, declared.time.Time.Time, Follows.same_time}
+use Rattle.irig_law.specs.{Hours.hour_micros, declared.point.Point.Point, Fits.periods_apart}
+
+-- how many periods one frame of the code is after another: none, if they have one time
+abbrev pub periods_after : FormatView → ℕ → Time → Time → Option ℕ
+periods_after f century t u =
+    if same_time t u then Some 0 else periods_apart century (frame_period_of f.kind) t u
+
+abbrev pub elements_by : Option ℕ → ℕ → ℕ → ℕ
+elements_by None e g = 0
+elements_by (Some n) e g = 100 * n + g - e
+
+-- 0, if it is not after it, or no whole periods
+abbrev pub elements_after : FormatView → ℕ → Point → Point → ℕ
+elements_after f century x y =
+    elements_by (periods_after f century x.frame y.frame) x.element y.element
 
 -- the microseconds from the begin of an hour to a pulse, in the hour of its frame
 abbrev pub since_hour : FormatView → Point → ℕ
@@ -29,13 +44,7 @@ minute_at t w =
 
 -- the time then
 abbrev pub in_hour : Time → ℕ → Time
-in_hour t w = record {
-  year = t.year;
-  days = t.days;
-  hours = t.hours;
-  minutes = minute_at t w;
-  micros = w - 60000000 * minute_at t w;
-}
+in_hour t w = record t { minutes = minute_at t w; micros = w - 60000000 * minute_at t w }
 
 -- the time is counted back from the second pulse if that is in a second 60, or if one cannot count
 -- on so far from the first

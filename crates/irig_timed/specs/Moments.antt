@@ -5,12 +5,10 @@ use Rattle.irig_recording.specs.declared.pulse.Pulse.{Pulse}
 use Rattle.irig_track.specs.Splices.{risen_by}
 use Rattle.irig_times.specs.declared.time.Time.{Time}
 use Rattle.irig_law.specs.{Believed.believed, Points.IsPoint, declared.frame.Frame.Frame}
-use Rattle.irig_timed.specs.{Around.AreAround, Apart.elements_after}
-use Rattle.irig_timed.specs.{Gaps.gap_between, Line.is_in_hour, Line.time_on}
 use Rattle.irig_law.specs.declared.point.Point.{Point}
-use Rattle.irig_timed.specs.declared.gap.Gap.TheVariants.{Line}
-use Rattle.irig_timed.specs.declared.moment.Moment.{Moment}
-use Rattle.irig_timed.specs.declared.run.Place.{Place}
+use Rattle.irig_timed.specs.{Around.AreAround, Line.elements_after, Line.is_in_hour, Line.time_on}
+use Rattle.irig_timed.specs.{Gaps.gap_between, declared.gap.Gap.TheVariants.Line}
+use Rattle.irig_timed.specs.{declared.moment.Moment.Moment, declared.run.Place.Place}
 
 -- a pulse has a time: it is this element by the law, and not past the end of its hour
 pub record IsElement (f : FormatView) (century : ℕ) (ps : List Pulse) (frames : List Frame)
@@ -41,21 +39,30 @@ IsMomentOn f century ps frames d n x =
     (m : IsMomentBy f century ps frames d n x.time x.bound)
     × (m.from.number ≡ x.from) × (m.to.number ≡ x.to)
 
--- the frames of a track that are believed
-abbrev pub frames_by : FormatView → Bool → ℕ → List Pulse → List Frame
-frames_by f alone century ps = believed f alone century ps
+-- how many elements the two pulses of a moment are apart, how many microseconds, and how many of
+-- these are over, in microseconds / d
+module _ {f : FormatView} {century : ℕ} {ps : List Pulse} {frames : List Frame} {d n : ℕ}
+    {time : Time} {bound : ℕ} (m : IsMomentBy f century ps frames d n time bound) where
+  abbrev pub elements_of : ℕ
+  elements_of = elements_after f century m.from.point m.to.point
 
-abbrev pub IsMoment : FormatView → Bool → ℕ → List Pulse → ℕ → ℕ → Time → ℕ → Type 0
-IsMoment f alone century ps d n time bound =
-    IsMomentBy f century ps (frames_by f alone century ps) d n time bound
+  abbrev pub long_of : ℕ
+  long_of = m.next.rise - m.point.rise
 
-abbrev pub IsMomentOf : FormatView → Bool → ℕ → List Pulse → ℕ → ℕ → Moment → Type 0
-IsMomentOf f alone century ps d n x =
-    IsMomentOn f century ps (frames_by f alone century ps) d n x
+  abbrev pub part_of : ℕ
+  part_of = n - d * m.point.rise
 
--- n / d microseconds after the start it is this time; its bound is this
-abbrev pub IsTimed : FormatView → Bool → ℕ → List Pulse → ℕ → ℕ → Time → Type 0
-IsTimed f alone century ps d n time = (bound : ℕ) × IsMoment f alone century ps d n time bound
+module _ (f : FormatView) (alone : Bool) (century : ℕ) (ps : List Pulse) where
+  -- the frames of a track that are believed
+  abbrev pub frames_by : List Frame
+  frames_by = believed f alone century ps
 
-abbrev pub IsBound : FormatView → Bool → ℕ → List Pulse → ℕ → ℕ → ℕ → Type 0
-IsBound f alone century ps d n bound = (time : Time) × IsMoment f alone century ps d n time bound
+  abbrev pub IsMoment : ℕ → ℕ → Time → ℕ → Type 0
+  IsMoment d n time bound = IsMomentBy f century ps frames_by d n time bound
+
+  abbrev pub IsMomentOf : ℕ → ℕ → Moment → Type 0
+  IsMomentOf d n x = IsMomentOn f century ps frames_by d n x
+
+  -- n / d microseconds after the start it is this time
+  abbrev pub IsTimed : ℕ → ℕ → Time → Type 0
+  IsTimed d n time = (bound : ℕ) × IsMoment d n time bound

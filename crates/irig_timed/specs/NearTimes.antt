@@ -6,10 +6,10 @@ use Rattle.irig_recording.specs.declared.pulse.Pulse.{Pulse}
 use Rattle.irig_times.specs.declared.time.Time.{Time}
 use Rattle.irig_track.specs.Track.{IsLongTrack}
 use Rattle.irig_law.specs.{Holes.rate_of, Holes.units_of, Holes.Hole, Clocks.clock_of}
-use Rattle.irig_law.specs.{Clocks.slack_of, Hop.Within, Hours.hour_micros, Printed.true_time}
+use Rattle.irig_law.specs.{Clocks.slack_of, Names.Within, Hours.hour_micros, Printed.true_time}
 use Rattle.irig_law.specs.{Theorem.Story, declared.frame.Frame.Frame}
-use Rattle.irig_timed.specs.{Alike.HoleAs, Apart.elements_after, Bends.bends_over}
-use Rattle.irig_timed.specs.{Bends.off_over, Bends.units_in, Moments.IsMomentBy}
+use Rattle.irig_timed.specs.{Alike.HoleAs, Bends.bends_over, Bends.off_over, Bends.units_in}
+use Rattle.irig_timed.specs.Moments.{IsMomentBy, elements_of, long_of, part_of}
 use Rattle.irig_timed.specs.Stretches.{stretch_at}
 
 -- A time is in the hour of another one, and some code after it, to some microseconds. What passed
@@ -40,18 +40,13 @@ pub record Passes (f : FormatView) (century : ℕ) (ps : List Pulse) (frames : L
     (d n : ℕ) (time : Time) (bound : ℕ) (m : IsMomentBy f century ps frames d n time bound)
     (passed : ℕ → ℕ) : Type 0 where
   pub short : (a b : Frame) → stretch_at frames m.from.number ≡ Some (a, b) → 0 < bound
-      → elements_after f century m.from.point m.to.point < 100
-      → HoleAs ps a b (elements_after f century m.from.point m.to.point) d
-      (m.next.rise - m.point.rise) passed
+      → elements_of m < 100 → HoleAs ps a b (elements_of m) d (long_of m) passed
   pub long : (a b : Frame) → stretch_at frames m.from.number ≡ Some (a, b) → 0 < bound
-      → 100 ≤ elements_after f century m.from.point m.to.point
-      → Hole (rate_of (clock_of f ps a (slack_of ps a b))) (d * (m.next.rise - m.point.rise))
-      (d * units_of (elements_after f century m.from.point m.to.point)) passed
+      → 100 ≤ elements_of m → Hole (rate_of (clock_of f ps a (slack_of ps a b))) (d * long_of m)
+      (d * units_of (elements_of m)) passed
   pub even : bound ≡ 0
       → Within (d * units_in f (bends_over f ps frames m.from.number m.to.number))
-      (passed (n - d * m.point.rise))
-      ((n - d * m.point.rise) * units_of (elements_after f century m.from.point m.to.point)
-      / (m.next.rise - m.point.rise))
+      (passed (part_of m)) (part_of m * units_of (elements_of m) / long_of m)
 
 -- the time is as long after the first pulse as the code was, or as long before the second one; both
 -- have their true times
@@ -60,11 +55,10 @@ abbrev pub IsNear : (f : FormatView) (century : ℕ) (ps : List Pulse) (frames :
     → (ℕ → ℕ) → (ℕ → Fields) → (ℕ → ℕ) → Type 0
 IsNear f century ps frames d n time bound m name sent passed =
     IsAfter f d (off_over f ps frames m.from.number m.to.number bound)
-    (true_time f sent (name m.from.number)) (passed (n - d * m.point.rise)) time
+    (true_time f sent (name m.from.number)) (passed (part_of m)) time
     ⊎ IsBefore f d (off_over f ps frames m.from.number m.to.number bound)
     (true_time f sent (name m.to.number))
-    (d * units_of (elements_after f century m.from.point m.to.point)
-    - passed (n - d * m.point.rise)) time
+    (d * units_of (elements_of m) - passed (part_of m)) time
 
 abbrev pub TimesAreNear : Type 0
 TimesAreNear = (f : FormatView) (century micros : ℕ) (ps : List Pulse) (frames : List Frame)

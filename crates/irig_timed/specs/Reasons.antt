@@ -1,6 +1,6 @@
 -- Which moments have no time, and why. This project's own.
 use Rattle.std.specs.Prelude.{◌≡◌, ℕ, ◌/◌, ◌&&◌, ◌||◌, nat_lt, not, is_some, Bool, true, false}
-use Rattle.std.specs.Prelude.{List, [], ◌∷◌, Option, Some, None}
+use Rattle.std.specs.Prelude.{List, ◌∷◌, Option, Some, None}
 use Rattle.irig_codes.specs.Format.{FormatView}
 use Rattle.irig_index.specs.{Frames.frames, declared.record.Record.Record}
 use Rattle.irig_recording.specs.declared.pulse.Pulse.{Pulse}
@@ -8,9 +8,8 @@ use Rattle.irig_track.specs.Splices.{risen_by}
 use Rattle.irig_times.specs.{Times.timed, declared.time.Time.Time, declared.why.Why.Why}
 use Rattle.irig_times.specs.declared.why.Why.TheVariants.{Hole, Unbelieved}
 use Rattle.irig_law.specs.declared.frame.Frame.{Frame}
-use Rattle.irig_timed.specs.{Around.AreAround, Gaps.gap_at, Held.held}
-use Rattle.irig_timed.specs.{Moments.IsElement, Moments.IsTimed, Moments.frames_by}
-use Rattle.irig_timed.specs.declared.gap.Gap.{Gap}
+use Rattle.irig_timed.specs.{Around.AreAround, Gaps.gap_at, Held.held, Moments.IsElement}
+use Rattle.irig_timed.specs.{Moments.IsTimed, Moments.frames_by, declared.gap.Gap.Gap}
 use Rattle.irig_timed.specs.declared.gap.Gap.TheVariants.{Line, Untimed}
 use Rattle.irig_timed.specs.declared.run.Place.{Place}
 
@@ -31,10 +30,9 @@ is_doubtful f from to r held =
 
 abbrev pub has_doubtful : FormatView → Option Place → Option Place → List Record → List Bool
     → Bool
-has_doubtful f from to [] held = false
-has_doubtful f from to (r ∷ rs) [] = false
 has_doubtful f from to (r ∷ rs) (h ∷ held) =
     is_doubtful f from to r h || has_doubtful f from to rs held
+has_doubtful f from to rs held = false
 
 -- then that is why nothing there has a time
 abbrev pub with_doubt : Bool → Gap → Gap

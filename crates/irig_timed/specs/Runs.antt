@@ -1,11 +1,11 @@
 -- The elements of a track, as runs. This project's own.
-use Rattle.std.specs.Prelude.{◌≡◌, ℕ, zero, suc, ◌+◌, ◌-◌, ◌^◌, ◌<◌, ◌≤◌, true, List, length, Option, None}
-use Rattle.std.specs.Prelude.{option_map, slice_get, Some}
+use Rattle.std.specs.Prelude.{◌≡◌, ℕ, zero, suc, ◌+◌, ◌-◌, ◌^◌, ◌<◌, ◌≤◌, true, List, length}
+use Rattle.std.specs.Prelude.{Option, None, option_map, slice_get, Some}
 use Rattle.irig_codes.specs.{Format.FormatView, Width.is_in_step}
 use Rattle.irig_recording.specs.declared.pulse.Pulse.{Pulse}
 use Rattle.irig_times.specs.Steps.{micros_between}
 use Rattle.irig_law.specs.declared.point.Point.{Point}
-use Rattle.irig_timed.specs.declared.run.{Place.Place, Run.Run}
+use Rattle.irig_timed.specs.{declared.run.Place.Place, declared.run.Run.Run}
 
 -- a run is pulses that follow one another, as elements of one frame of the code; these are its
 -- first pulse and its last one

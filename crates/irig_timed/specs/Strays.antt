@@ -1,17 +1,11 @@
 -- How far rises stray from the line over a hole, in the believed frames around it. This project's
 -- own.
-use Rattle.std.specs.Prelude.{ℕ, zero, suc, ◌+◌, ◌-◌, ◌*◌, ◌/◌, min, max, nat_lt, List}
-use Rattle.std.specs.Prelude.{if◌then◌else◌}
+use Rattle.std.specs.Prelude.{ℕ, ◌+◌, ◌-◌, ◌*◌, ◌/◌, min, max, nat_lt, List, if◌then◌else◌}
 use Rattle.irig_codes.specs.Format.{FormatView}
 use Rattle.irig_recording.specs.declared.pulse.Pulse.{Pulse}
 use Rattle.irig_times.specs.Steps.{micros_between}
 use Rattle.irig_law.specs.{Clocks.apart, Holes.units_of, declared.frame.Frame.Frame}
-use Rattle.irig_timed.specs.Bends.{units_in}
-
--- the greatest of n numbers from one on
-abbrev pub greatest : (ℕ → ℕ) → ℕ → ℕ → ℕ
-greatest value k zero = 0
-greatest value k (suc n) = max (value k) (greatest value (k + 1) n)
+use Rattle.irig_timed.specs.Bends.{greatest, units_in}
 
 -- A line goes over n elements in `long` microseconds. If it goes through the rise of one pulse,
 -- this is how far it is from that of a later one, in nths of a microsecond.

@@ -2,7 +2,7 @@
 
 ghost use Rattle.std.specs.Prelude.{◌≡◌, ◌<◌, ◌≤◌, ◌^◌, IfSome};
 ghost use Rattle.irig_times.specs.Follows.{same_time};
-ghost use Rattle.irig_timed.specs.Apart.{elements_after, elements_by, periods_after};
+ghost use Rattle.irig_timed.specs.Line.{elements_after, elements_by, periods_after};
 
 use irig_codes::Format;
 use irig_law::{Point, periods_apart};

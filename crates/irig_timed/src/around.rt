@@ -29,7 +29,7 @@ pub struct Line {
 }
 
 impl Around {
-    ghost use Rattle.irig_timed.specs.Surroundings.{IsAround, IsLine};
+    ghost use Rattle.irig_timed.specs.Knowns.{IsAround, IsLine};
     ghost use Rattle.irig_timed.specs.declared.run.Place.{Place};
 
     /// By the runs of a track and the gaps between them, if that many pulses have risen.

@@ -1,6 +1,6 @@
 //! When the time of a moment is true, and why it has none.
 
-ghost use Rattle.irig_timed.specs.ReasonLaws.{NoneIffWhy, OneWhy};
+ghost use Rattle.irig_timed.specs.Knowns.{NoneIffWhy, OneWhy};
 ghost use Rattle.irig_timed.specs.{NearTimes.TimesAreNear, TrueMoments.MomentsAreNear};
 ghost use Rattle.irig_timed.specs.Truths.{MomentsAreTrue};
 

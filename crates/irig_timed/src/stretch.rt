@@ -1,8 +1,8 @@
 //! The two believed frames around a pulse.
 
 ghost use Rattle.std.specs.Prelude.{◌≡◌, ◌<◌, ◌≤◌, ◌^◌, IfSome, length, slice_get};
-ghost use Rattle.irig_timed.specs.Bends.{frame_before, last_by, next_by};
-ghost use Rattle.irig_timed.specs.Stretches.{AreFramesOf, FramesUpTo, pair_at, stretch_at};
+ghost use Rattle.irig_timed.specs.Stretches.{AreFramesOf, FramesUpTo, both, frame_before, last_by};
+ghost use Rattle.irig_timed.specs.Stretches.{next_by, stretch_at};
 
 use irig_law::Frame;
 
@@ -12,8 +12,23 @@ pub fn stretch_at(frames: &[Frame], number: usize) -> Option<(Frame, Frame)>
     ensures stretch { result ≡ stretch_at frames.now number }
     ensures low { IfSome result (λ s. (s.0.marker < 2 ^ 26) × (s.1.marker < 2 ^ 26)) }
 {
-    let many = frames_up_to(frames, number);
-    pair_at(frames, many)
+    let around = frames_around(frames, number);
+    both(around.0, around.1)
+}
+
+/// Two frames, if both are there.
+fn both(last: Option<Frame>, next: Option<Frame>) -> Option<(Frame, Frame)>
+    requires last { IfSome last (λ a. a.marker < 2 ^ 26) }
+    requires next { IfSome next (λ a. a.marker < 2 ^ 26) }
+    ensures both { result ≡ both last next }
+    ensures low { IfSome result (λ s. (s.0.marker < 2 ^ 26) × (s.1.marker < 2 ^ 26)) }
+{
+    match (last, next) {
+        (Some(last), Some(next)) => Some((last, next)),
+        (Some(_), None) => None,
+        (None, Some(_)) => None,
+        (None, None) => None,
+    }
 }
 
 /// The last frame that begins with a pulse or before it, and the first one after that.
@@ -68,17 +83,4 @@ fn frames_up_to(frames: &[Frame], number: usize) -> usize
         }
     }
     low
-}
-
-/// The last of that many frames, and the next one.
-fn pair_at(frames: &[Frame], many: usize) -> Option<(Frame, Frame)>
-    requires frames { AreFramesOf frames.now }
-    requires many { many ≤ length frames.now }
-    ensures pair { result ≡ pair_at frames.now many }
-    ensures low { IfSome result (λ s. (s.0.marker < 2 ^ 26) × (s.1.marker < 2 ^ 26)) }
-{
-    if many == 0 || many == frames.len() {
-        return None;
-    }
-    Some((frames[many - 1], frames[many]))
 }

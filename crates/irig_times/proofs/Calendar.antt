@@ -11,7 +11,7 @@ use Rattle.irig_codes.specs.{declared.fields.Fields.Fields, declared.note.Name.N
 use Rattle.irig_recording.specs.declared.pulse.Pulse.{Pulse}
 use Rattle.irig_index.specs.{Verdict.elements_of, Verdict.first_fault, Verdict.judged, Verdict.verdict_of}
 use Rattle.irig_index.specs.{declared.record.Verdict.Verdict, declared.record.Verdict.TheVariants.Broken, declared.record.Verdict.TheVariants.Read}
-use Rattle.irig_times.specs.{declared.time.Time.Time, Laws.IsOfCalendar}
+use Rattle.irig_times.specs.{declared.time.Time.Time, Times.IsOfCalendar}
 use Rattle.irig_times.proofs.SoundFrames.{judged-read}
 
 -- none that is found

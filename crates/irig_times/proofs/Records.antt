@@ -7,7 +7,7 @@ use Rattle.irig_recording.specs.declared.pulse.Pulse.{Pulse}
 use Rattle.irig_index.specs.declared.record.Verdict.TheVariants.{Read}
 use Rattle.irig_index.specs.{declared.record.Record.Record, Frames.frame_at, Frames.frames, Laws.TellsOfMarker, Verdict.verdict_of}
 use Rattle.irig_index.proofs.MarkerLaws.{frames_are_the_markers, markers_rise}
-use Rattle.irig_times.specs.{Elements.AreFrames, Elements.IsElement, FrameLooks.PartedAt, FrameLooks.MarkersRise, Times.timed}
+use Rattle.irig_times.specs.{Starts.AreFrames, Starts.IsElement, FrameLooks.PartedAt, FrameLooks.MarkersRise, Times.timed}
 use Rattle.irig_times.proofs.SoundFrames.{none-within, timed-read}
 
 module _ (f : FormatView) (ps : List Pulse) where

@@ -8,7 +8,7 @@ use Rattle.irig_codes.specs.{Format.FormatView, Layout.Field, Layout.control, La
 use Rattle.irig_codes.specs.{declared.fields.Fields.Fields, declared.format.Kind.Kind}
 use Rattle.irig_index.specs.declared.record.Verdict.TheVariants.{Read}
 use Rattle.irig_times.specs.TimedElements.{is_timed}
-use Rattle.irig_times.specs.{declared.time.Time.Time, Elements.share, Follows.is_later, Times.minute_micros, Times.second_of_day, Times.timed}
+use Rattle.irig_times.specs.{declared.time.Time.Time, Starts.share, Follows.is_later, Times.minute_micros, Times.second_of_day, Times.timed}
 
 -- a time of a second
 abbrev at : Option ℕ → ℕ → ℕ → ℕ → ℕ → Time

@@ -8,9 +8,8 @@ use Rattle.irig_times.specs.declared.time.Time.{Time}
 -- whether two years are the same, or both are unknown
 abbrev pub same_year : Option ℕ → Option ℕ → Bool
 same_year None None = true
-same_year None (Some z) = false
-same_year (Some y) None = false
 same_year (Some y) (Some z) = y == z
+same_year y z = false
 
 -- the year after a year of two digits
 abbrev pub next_year : Option ℕ → Option ℕ

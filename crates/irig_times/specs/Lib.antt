@@ -1,7 +1,5 @@
-pub mod Elements
 pub mod Follows
 pub mod FrameLooks
-pub mod Laws
 pub mod Starts
 pub mod Steps
 pub mod TimedElements

@@ -1,6 +1,5 @@
 -- Pulses that follow one another in step. This project's own.
-use Rattle.std.specs.Prelude.{ℕ, zero, suc, ◌+◌, ◌-◌, ◌&&◌, Bool, true, false, List, Option}
-use Rattle.std.specs.Prelude.{Some, None}
+use Rattle.std.specs.Prelude.{ℕ, zero, suc, ◌+◌, ◌-◌, ◌&&◌, Bool, true, false, List, Option, Some}
 use Rattle.std.specs.Prelude.{slice_get, if◌then◌else◌}
 use Rattle.irig_codes.specs.{Format.FormatView, Width.is_in_step, Width.step_in}
 use Rattle.irig_recording.specs.declared.pulse.Pulse.{Pulse}
@@ -8,15 +7,13 @@ use Rattle.irig_index.specs.Marker.{follows}
 
 -- two pulses are there, and the second rises one interval after the first, to a tenth of it
 abbrev pub is_regular : FormatView → Option Pulse → Option Pulse → Bool
-is_regular f None q = false
-is_regular f (Some p) None = false
 is_regular f (Some p) (Some q) = follows f p q
+is_regular f p q = false
 
 -- how long after one pulse another rises; 0 if one of them is not there
 abbrev pub apart : Option Pulse → Option Pulse → ℕ
-apart None q = 0
-apart (Some p) None = 0
 apart (Some p) (Some q) = q.rise - p.rise
+apart p q = 0
 
 -- the same of the pulses with these numbers
 abbrev pub micros_between : List Pulse → ℕ → ℕ → ℕ

@@ -1,15 +1,13 @@
 -- The time of a frame, after IRIG Standard 200-04. A time is a minute of a year and the
 -- microseconds since that minute began, so that a second 60 has a time of its own. This project's
 -- own.
-use Rattle.std.specs.Prelude.{ℕ, ◌+◌, ◌*◌, ◌/◌, ◌%◌, ◌^◌, nat_le, Option, Some, None}
-use Rattle.std.specs.Prelude.{if◌then◌else◌, unwrap_or}
-use Rattle.irig_codes.specs.Fields.{part}
-use Rattle.irig_codes.specs.Format.{FormatView, carries_sbs, frame_period_of, has_control}
-use Rattle.irig_codes.specs.Format.{has_hundredths}
-use Rattle.irig_codes.specs.declared.fields.Fields.{Fields}
-use Rattle.irig_codes.specs.declared.note.Note.TheVariants.{Fine, Field, SbsDisagrees, Stray}
+use Rattle.std.specs.Prelude.{ℕ, ◌+◌, ◌*◌, ◌/◌, ◌%◌, ◌^◌, nat_le, Option, Some, None, if◌then◌else◌}
+use Rattle.std.specs.Prelude.{unwrap_or, ◌≤◌, IfSome}
+use Rattle.irig_codes.specs.{Fields.part, Format.FormatView, Format.carries_sbs}
+use Rattle.irig_codes.specs.Format.{frame_period_of, has_control, has_hundredths}
+use Rattle.irig_codes.specs.{declared.fields.Fields.Fields, declared.note.Note.TheVariants.Fine}
 use Rattle.irig_index.specs.declared.record.Verdict.{Verdict}
-use Rattle.irig_index.specs.declared.record.Verdict.TheVariants.{Broken, Read}
+use Rattle.irig_index.specs.declared.record.Verdict.TheVariants.{Read}
 use Rattle.irig_times.specs.declared.time.Time.{Time}
 
 -- the microseconds from the start of its minute to a frame
@@ -28,13 +26,7 @@ time_in g n = record {
 
 -- the time some microseconds after another, in its minute
 abbrev pub plus : Time → ℕ → Time
-plus t n = record {
-  year = t.year;
-  days = t.days;
-  hours = t.hours;
-  minutes = t.minutes;
-  micros = t.micros + n;
-}
+plus t n = record t { micros = t.micros + n }
 
 -- the second of the day, in 17 bits; a second 60 has what its own frame shows, as none is counted
 -- into it
@@ -58,7 +50,12 @@ fields_at f t = record {
 abbrev pub timed : FormatView → Verdict → Option Fields
 timed f (Read g Fine) =
     if nat_le (minute_micros g + frame_period_of f.kind) 61000000 then Some g else None
-timed f (Read g (Field x)) = None
-timed f (Read g SbsDisagrees) = None
-timed f (Read g (Stray e)) = None
-timed f (Broken k cause) = None
+timed f other = None
+
+-- a time is a minute of an hour of a day of a year; the year, if it is known, has two digits
+pub record IsOfCalendar (x : Time) : Type 0 where
+  pub year : IfSome x.year (λ y. y ≤ 99)
+  pub first : 1 ≤ x.days
+  pub days : x.days ≤ 366
+  pub hours : x.hours ≤ 23
+  pub minutes : x.minutes ≤ 59

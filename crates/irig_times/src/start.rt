@@ -5,7 +5,7 @@ ghost use Rattle.irig_codes.specs.Format.{FormatView};
 ghost use Rattle.irig_index.specs.{Frames.frames, declared.record.Record.Record};
 ghost use Rattle.irig_recording.specs.declared.pulse.Pulse.{Pulse};
 ghost use Rattle.irig_times.specs.FrameLooks.{PartedAt};
-ghost use Rattle.irig_times.specs.{Elements.AreFrames, Elements.IsFollowed, Starts.IsStartOf};
+ghost use Rattle.irig_times.specs.{Starts.AreFrames, Starts.IsFollowed, Starts.IsStartOf};
 ghost use Rattle.irig_times.specs.Times.{time_in};
 
 use crate::follows::is_later;

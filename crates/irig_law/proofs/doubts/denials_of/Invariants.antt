@@ -1,6 +1,6 @@
 use Rattle.std.proofs.Common.{◌≡◌, ◌+◌, ◌-◌, ◌≤◌, ℕ, get_or}
 use Rattle.irig_law.specs.{OfOne.sum_from, Quiet.denied_at, Quiet.denying, Quiet.one_of}
-use Rattle.irig_law.specs.Wanted.{IsKept}
+use Rattle.irig_law.specs.Elements.{IsKept}
 use Rattle.irig_law.proofs.doubts.denials_of.Given as goal
 
 abbrev pub invariant-loop-number : goal.invariant-loop-number

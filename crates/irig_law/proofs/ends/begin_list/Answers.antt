@@ -1,5 +1,5 @@
 use Rattle.std.proofs.Common.{◌≡◌, ◌+◌, ℕ, Option, arith, sym, subst}
-use Rattle.irig_law.specs.EndPoints.{begin_of}
+use Rattle.irig_law.specs.Seens.{begin_of}
 use Rattle.irig_law.specs.declared.point.Point.{Point}
 use Rattle.irig_law.proofs.Each.{at-more, one-longer}
 use Rattle.irig_law.proofs.ends.begin_list.Goals as goal

@@ -1,5 +1,5 @@
 use Rattle.std.proofs.Common.{◌≡◌, ◌+◌, ℕ, length, slice_get, Option, Some}
-use Rattle.irig_law.specs.EndPoints.{begin_of}
+use Rattle.irig_law.specs.Seens.{begin_of}
 use Rattle.irig_law.specs.declared.point.Point.{Point}
 use Rattle.irig_law.proofs.ends.begin_list.Given as goal
 

@@ -1,7 +1,7 @@
 use Rattle.std.proofs.Common.{◌≡◌, List, true, refl, arith, ap, ◌∙◌, subst}
 use Rattle.std.specs.Prelude.{◌↔◌}
 use Rattle.irig_recording.specs.declared.pulse.Pulse.{Pulse}
-use Rattle.irig_law.specs.{Clocks.end_slack, EndPoints.AreInStep, Ends.IsSureBefore, Seens.SeenBefore}
+use Rattle.irig_law.specs.{Clocks.end_slack, Seens.AreInStep, Ends.IsSureBefore, Seens.SeenBefore}
 use Rattle.irig_law.specs.declared.names.Seen.{Seen}
 use Rattle.irig_law.proofs.{EndsSaid.begin-says, SeenLists.seen-before-moved}
 use Rattle.irig_law.proofs.ends.begin_points.Goals as goal

@@ -1,5 +1,5 @@
 use Rattle.std.proofs.Common.{◌≡◌, ◌+◌, ℕ, Option, arith, sym, subst}
-use Rattle.irig_law.specs.EndPoints.{end_of}
+use Rattle.irig_law.specs.Seens.{end_of}
 use Rattle.irig_law.specs.declared.point.Point.{Point}
 use Rattle.irig_law.proofs.Each.{at-more, one-longer}
 use Rattle.irig_law.proofs.ends.end_list.Goals as goal

@@ -1,5 +1,5 @@
 use Rattle.std.proofs.Common.{◌≡◌, ◌+◌, ℕ, length, slice_get, Option, Some}
-use Rattle.irig_law.specs.EndPoints.{end_of}
+use Rattle.irig_law.specs.Seens.{end_of}
 use Rattle.irig_law.specs.declared.point.Point.{Point}
 use Rattle.irig_law.proofs.ends.end_list.Given as goal
 

@@ -1,6 +1,6 @@
 use Rattle.std.proofs.Common.{◌≡◌, List, true, refl, arith, ap, ◌∙◌, subst}
 use Rattle.std.specs.Prelude.{◌↔◌}
-use Rattle.irig_law.specs.{Clocks.end_slack, EndPoints.AreInStep, Ends.IsSureAfter, Seens.SeenAfter}
+use Rattle.irig_law.specs.{Clocks.end_slack, Seens.AreInStep, Ends.IsSureAfter, Seens.SeenAfter}
 use Rattle.irig_law.specs.declared.names.Seen.{Seen}
 use Rattle.irig_law.proofs.{EndsSaid.end-says, SeenAtEnds.sure-after, SeenLists.seen-after-moved}
 use Rattle.irig_law.proofs.ends.end_points.Goals as goal

@@ -1,7 +1,7 @@
 use Rattle.std.proofs.Common.{◌≡◌, ◌-◌, ◌*◌, ◌^◌, ◌<◌, ◌≤◌, ℕ, false, slice_get}
 use Rattle.irig_law.specs.{Clocks.clock_of, Clocks.end_slack, Denials.denies_named, Ends.seen_at_end, Names.walk}
 use Rattle.irig_law.specs.Rows.{place_in, rise_in, runs_in}
-use Rattle.irig_law.specs.Wanted.{IsKept}
+use Rattle.irig_law.specs.Elements.{IsKept}
 use Rattle.irig_law.proofs.ends.none_denies.Given as goal
 
 abbrev pub invariant-loop-place : goal.invariant-loop-place

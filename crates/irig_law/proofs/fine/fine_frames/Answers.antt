@@ -1,7 +1,7 @@
 use Rattle.std.proofs.Common.{◌+◌, ◌++◌, ◌≤◌, List, drop, length, slice_get, arith, ap, sym, ◌∙◌}
 use Rattle.std.proofs.lemmas.{List.append-nil, Option.slice_get_within}
 use Rattle.irig_index.specs.declared.record.Record.{Record}
-use Rattle.irig_law.specs.Fine.{fine_in, with_fine}
+use Rattle.irig_law.specs.Chains.{fine_in, with_fine}
 use Rattle.irig_law.proofs.ChainLists.{drop-at, drop-end}
 use Rattle.irig_times.proofs.Records.{frame-tells}
 use Rattle.irig_law.proofs.fine.fine_frames.Goals as goal

@@ -1,5 +1,5 @@
 use Rattle.std.proofs.Common.{◌≡◌, ◌++◌, drop}
-use Rattle.irig_law.specs.Fine.{fine_in}
+use Rattle.irig_law.specs.Chains.{fine_in}
 use Rattle.irig_law.proofs.fine.fine_frames.Given as goal
 
 abbrev pub invariant-loop-place : goal.invariant-loop-place

@@ -1,6 +1,6 @@
 use Rattle.std.proofs.Common.{◌≡◌, ◌+◌, Bool, ℕ, length, slice_get, Some}
 use Rattle.irig_law.specs.{Clocks.slack_of, Denials.denies_second}
-use Rattle.irig_law.specs.Wanted.{IsKept}
+use Rattle.irig_law.specs.Elements.{IsKept}
 use Rattle.irig_law.proofs.happened.second_denials.Given as goal
 
 abbrev pub invariant-loop-place : goal.invariant-loop-place

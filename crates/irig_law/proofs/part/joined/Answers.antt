@@ -1,5 +1,5 @@
 use Rattle.std.proofs.Common.{◌≡◌, ◌-◌, ℕ, List, Option, slice_get, arith, sym, ap, ◌∙◌, subst}
-use Rattle.irig_law.specs.Parts.{AreJoined, points_end}
+use Rattle.irig_law.specs.Points.{AreJoined, points_end}
 use Rattle.irig_law.specs.declared.point.Point.{Point}
 use Rattle.irig_law.proofs.Joined.{joined-more, joined-none}
 use Rattle.irig_law.proofs.part.joined.Goals as goal

@@ -1,4 +1,4 @@
-use Rattle.irig_law.specs.Parts.{AreJoined}
+use Rattle.irig_law.specs.Points.{AreJoined}
 use Rattle.irig_law.proofs.part.joined.Given as goal
 
 abbrev pub invariant-loop-place : goal.invariant-loop-place

@@ -1,5 +1,5 @@
 use Rattle.std.proofs.Common.{◌≡◌, ◌+◌, ◌-◌, ℕ, length, arith, subst}
-use Rattle.irig_law.specs.{Parts.ArePoints}
+use Rattle.irig_law.specs.{Points.ArePoints}
 use Rattle.irig_law.proofs.{Printed.time-few, SaidPoints.last-points, SaidPoints.long-points, SaidPoints.points-from}
 use Rattle.irig_law.proofs.part.last_points.Goals as goal
 

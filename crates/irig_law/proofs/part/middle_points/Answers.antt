@@ -1,5 +1,5 @@
 use Rattle.std.proofs.Common.{◌≡◌, ◌+◌, ◌-◌, ℕ, slice_get, arith, ap, ◌∙◌, subst}
-use Rattle.irig_law.specs.{Parts.AreSaid}
+use Rattle.irig_law.specs.{Points.AreSaid}
 use Rattle.irig_law.proofs.{Printed.time-few, SaidPoints.long-points, SaidPoints.points-from, SaidPoints.said-more}
 use Rattle.irig_law.proofs.part.middle_points.Goals as goal
 

@@ -1,6 +1,6 @@
 use Rattle.std.proofs.Common.{◌≡◌, ◌-◌, ℕ, length, IfOk, arith, sym, subst}
 use Rattle.std.proofs.lemmas.Result.{IfOk-weaker}
-use Rattle.irig_law.specs.Parts.{ArePoints, AreSaid}
+use Rattle.irig_law.specs.Points.{ArePoints, AreSaid}
 use Rattle.irig_law.proofs.{SaidPoints.said-are, TrueTimes.part_true}
 use Rattle.irig_law.proofs.part.part_points.Goals as goal
 

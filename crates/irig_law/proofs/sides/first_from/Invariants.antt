@@ -1,5 +1,5 @@
 use Rattle.std.proofs.Common.{◌-◌, ◌<◌, ◌≤◌, ℕ, length}
-use Rattle.irig_law.specs.Sides.{Denies}
+use Rattle.irig_law.specs.Law.{Denies}
 use Rattle.irig_law.proofs.sides.first_from.Given as goal
 
 abbrev pub invariant-loop-place : goal.invariant-loop-place

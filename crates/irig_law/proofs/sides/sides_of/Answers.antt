@@ -1,5 +1,5 @@
 use Rattle.std.proofs.Common.{arith}
-use Rattle.irig_law.specs.Sides.{IsAfter, IsBefore}
+use Rattle.irig_law.specs.Law.{IsAfter, IsBefore}
 use Rattle.irig_law.proofs.Lists.{denies-inside, not-possible, possible}
 use Rattle.irig_law.proofs.sides.sides_of.Goals as goal
 

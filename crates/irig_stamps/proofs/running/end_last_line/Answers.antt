@@ -1,13 +1,14 @@
 use Rattle.std.proofs.Common.{rules, ◌≡◌, ◌≢◌, ◌<◌, [], length, ap, refl, arith}
 use Rattle.std.proofs.KnownBytes.{Consumes-nil}
 use Rattle.irig_stamps.specs.declared.fault.RunFault.TheVariants.{OutOfMemory}
-use Rattle.irig_stamps.proofs.{Known.no-items, RunSteps.ended-line, RunSteps.ended-whole, RunSteps.stopped}
+use Rattle.std.proofs.lemmas.List.{nil_from_length}
+use Rattle.irig_stamps.proofs.{RunSteps.ended-line, RunSteps.ended-whole, RunSteps.stopped}
 use Rattle.irig_stamps.proofs.running.end_last_line.Goals as goal
 
 pub returns-then-is_empty-clause-step : goal.returns-then-is_empty-clause-step
 returns-then-is_empty-clause-step g c start left from at_end h =
     let none : length c.args.state.now.line.items ≡ 0 = search rules in
-    ended-whole _ _ _ start left from _ _ _ _ h at_end (no-items c.args.state.now.line.items none)
+    ended-whole _ _ _ start left from _ _ _ _ h at_end (nil_from_length c.args.state.now.line.items none)
 
 pub returns-in-Ok-clause-step : goal.returns-in-Ok-clause-step
 returns-in-Ok-clause-step g c start left from at_end h =

@@ -5,7 +5,7 @@ use Rattle.irig_track.specs.Looks.{counted}
 use Rattle.irig_stamps.specs.Looks.{begins}
 use Rattle.irig_stamps.specs.{Numbers.capped, Numbers.number_in, Stamps.picos_in, StampTexts.stamp_text}
 use Rattle.irig_stamps.specs.{declared.look.Look.Look, declared.picos.Picos.Picos}
-use Rattle.irig_stamps.proofs.Known.{rest_whole}
+use Rattle.irig_print.proofs.Known.{rest_whole}
 use Rattle.irig_stamps.proofs.stamping.put_stamped.Goals as goal
 
 -- a number that is too great for its bits is a number

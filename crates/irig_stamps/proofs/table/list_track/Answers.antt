@@ -3,7 +3,8 @@ use Rattle.std.specs.Io.KnownBytes.{Appends}
 use Rattle.irig_index.specs.{Frames.frames}
 use Rattle.irig_times.specs.FrameLooks.{FramesView}
 use Rattle.irig_track.specs.{Looks.LensView, Track.TrackView}
-use Rattle.irig_stamps.specs.{Dates.doubted, Dates.first_day, Front.AppendsFront}
+use Rattle.irig_print.specs.Front.{AppendsFront}
+use Rattle.irig_stamps.specs.{Dates.doubted, Dates.first_day}
 use Rattle.irig_timed.specs.Held.{held}
 use Rattle.irig_stamps.proofs.TableRows.{listed, standing-of}
 use Rattle.irig_stamps.proofs.table.list_track.Goals as goal

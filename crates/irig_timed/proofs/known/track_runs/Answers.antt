@@ -1,6 +1,6 @@
 use Rattle.std.proofs.Common.{◌≡◌, ◌+◌, ℕ, List, length, arith, ap, ◌∙◌, subst}
 use Rattle.irig_recording.specs.declared.pulse.Pulse.{Pulse}
-use Rattle.irig_law.specs.Parts.{ArePoints, AreSaid, part_begin}
+use Rattle.irig_law.specs.Points.{ArePoints, AreSaid, part_begin}
 use Rattle.irig_law.proofs.SaidPoints.{begins-end, begins-rise}
 use Rattle.irig_timed.specs.{Elements.AreWith, Runs.AreRunsTo}
 use Rattle.irig_timed.proofs.RunPoints.{no-runs, none-in, part-more}

@@ -1,5 +1,5 @@
 use Rattle.std.proofs.Common.{◌≡◌, ◌<◌, ◌+◌, ℕ, length}
-use Rattle.irig_law.specs.Parts.{AreSaid, part_begin}
+use Rattle.irig_law.specs.Points.{AreSaid, part_begin}
 use Rattle.irig_timed.specs.Runs.{AreRunsTo}
 use Rattle.irig_timed.proofs.RunPoints.{Has}
 use Rattle.irig_timed.proofs.known.track_runs.Given as goal

@@ -1,7 +1,7 @@
 use Rattle.std.proofs.Common.{◌≡◌, ◌+◌, ◌-◌, ◌*◌, ◌/◌, ◌<◌, ◌^◌, length, slice_get, Some, arith, sym, ap, ◌∙◌, subst}
 use Rattle.std.proofs.lemmas.Option.{none-some, same_Some}
 use Rattle.irig_times.proofs.PulseLooks.{through-next}
-use Rattle.irig_timed.specs.{Apart.elements_after, Line.time_on, Moments.IsMomentOn}
+use Rattle.irig_timed.specs.{Line.elements_after, Line.time_on, Moments.IsMomentOn}
 use Rattle.irig_timed.specs.declared.moment.Moment.{Moment}
 use Rattle.irig_timed.proofs.MomentFacts.{gap-line, known-by, line-facts, line-rises, moment-on, moment-same, no-moment}
 use Rattle.irig_timed.proofs.Widest.{line-low}

@@ -1,7 +1,7 @@
 use Rattle.std.proofs.Common.{◌≡◌, ◌+◌, ◌-◌, arith, ap, ◌∙◌}
 use Rattle.irig_times.specs.Steps.{micros_between}
 use Rattle.irig_timed.specs.Bends.{bend_at, bend_of, most_within}
-use Rattle.irig_timed.proofs.BendLists.{most-more, most-none}
+use Rattle.irig_timed.proofs.StrayLines.{greatest-more, greatest-none}
 use Rattle.irig_timed.proofs.off.most_within.Goals as goal
 
 pub loop-number-init : goal.loop-number-init
@@ -26,7 +26,7 @@ loop-number-preserved c =
     c.micros_between-next.ensures.micros ∙ ap (λ t. micros_between t.pulses k (k + 1)) inv.track in
     let bend : c.bend_of.result ≡ bend_at f ps k = c.bend_of.ensures.bend ∙ (λ i. bend_of f (inv.step i) (next i)) in
     let here : k ≡ k + 1 - 1 = omega arith in
-    let more = most-more f ps c.loop-number.most c.bend_of.result k (c.args.marker + 99) (most_within f ps c.args.marker)
+    let more = greatest-more (bend_at f ps) c.loop-number.most c.bend_of.result k (c.args.marker + 99) (most_within f ps c.args.marker)
     c.loop-number-test.true bend inv.rest in
     record {
       track = c.micros_between-next.ensures.pulses ∙ inv.track;
@@ -38,5 +38,5 @@ loop-number-preserved c =
 
 pub returns-clause-most : goal.returns-clause-most
 returns-clause-most c =
-    most-none c.args.format c.args.pulses.now.track.pulses c.loop-number.most c.loop-number.number (c.args.marker + 99)
+    greatest-none (bend_at c.args.format c.args.pulses.now.track.pulses) c.loop-number.most c.loop-number.number (c.args.marker + 99)
     (most_within c.args.format c.args.pulses.now.track.pulses c.args.marker) c.loop-number-test.false c.loop-number.invariant.rest

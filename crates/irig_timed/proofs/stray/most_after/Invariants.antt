@@ -1,6 +1,6 @@
 use Rattle.std.proofs.Common.{◌≡◌, ◌-◌, ◌≤◌, ◌^◌}
 use Rattle.std.specs.Prelude.{max}
-use Rattle.irig_timed.specs.Strays.{greatest, line_off, most_after}
+use Rattle.irig_timed.specs.{Bends.greatest, Strays.line_off, Strays.most_after}
 use Rattle.irig_timed.proofs.stray.most_after.Given as goal
 
 abbrev pub invariant-loop-later : goal.invariant-loop-later

@@ -1,6 +1,6 @@
 use Rattle.std.proofs.Common.{◌≡◌, ◌+◌, ◌-◌, ◌≤◌, ◌^◌}
 use Rattle.std.specs.Prelude.{max}
-use Rattle.irig_timed.specs.Strays.{greatest, most_after, strays_in}
+use Rattle.irig_timed.specs.{Bends.greatest, Strays.most_after, Strays.strays_in}
 use Rattle.irig_timed.proofs.stray.strays_in.Given as goal
 
 abbrev pub invariant-loop-number : goal.invariant-loop-number

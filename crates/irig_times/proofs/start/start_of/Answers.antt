@@ -1,7 +1,7 @@
 use Rattle.std.proofs.Common.{◌≡◌, ◌+◌, ◌↔◌, List, slice_get, true, ap, sym, ◌∙◌, subst}
 use Rattle.std.proofs.lemmas.Option.{same_Some, slice_get_within}
 use Rattle.irig_index.specs.{declared.record.Record.Record}
-use Rattle.irig_times.specs.{Elements.IsFollowed, FrameLooks.PartedAt, Starts.IsStart}
+use Rattle.irig_times.specs.{Starts.IsFollowed, FrameLooks.PartedAt, Starts.IsStart}
 use Rattle.irig_times.proofs.Records.{frame-tells, parted-end}
 use Rattle.irig_times.proofs.start.start_of.Goals as goal
 
