@@ -1,0 +1,3 @@
+mod ChangeFacts
+mod DoubtLists
+mod NearTimes

@@ -1,0 +1,4 @@
+pub mod Agreement
+pub mod Changes
+pub mod Doubts
+pub mod Recorded
