@@ -1,8 +1,10 @@
-"""A guard for proposed repairs, as docs/GUARD.md has it: each is tried, and kept only if the result is safe."""
+"""A guard for proposed repairs, as docs/GUARD.md has it: each is tried, and kept only if the result is safe; and what is kept agrees with
+the recording."""
 from bisect import bisect_left, bisect_right
-from typing import Iterator, List, NamedTuple, Optional, Sequence, Tuple
+from typing import Any, Dict, Iterator, List, NamedTuple, Optional, Sequence, Tuple
 
 from reference import language, machine, timecode
+from reference.agreement import Agreement, Fault
 from reference.bearing import LONGEST_COUNT, Bearing, Near, Shown, clock
 
 LONGEST_LINE, LONGEST_COMMENT = 1000, 900
@@ -19,6 +21,7 @@ MISPLACED = ": its pulses would rise where nothing supports it"
 ALONE = "fine frames would not support each other"
 REMOVED = "the pulse at %d is in step, and would be gone"
 UNJUDGED = "no frame would be fine to go by"
+FEW = 8  # times as far as the nearest repair: a round in which it is more is late
 IN_STEP = 10  # parts of an interval: by one of them the distance of pulses that are in step can be off, and a pulse in its place
 EDITS = {
     "insert": machine.insert, "delete": machine.delete, "split": machine.split, "join": machine.join,
@@ -405,20 +408,56 @@ class Guard:
     def __init__(self, opened: machine.Machine, moved: bool = False, others: Sequence[machine.State] = ()) -> None:
         self.machine = opened
         self.safety = Safety(opened.present, moved, others)
+        self.agreement = Agreement(opened.present)
         self.last = self.safety.old
         self.printed: List[bytes] = []
         self.refused = False
+        self.bars: Dict[int, str] = {}  # why repairs are barred, by the places of their first lines
 
     def script(self, text: bytes) -> None:
+        """Runs the script until what is kept agrees with the recording. If it does not, what was kept near the faults is barred."""
         lines = text.split(b"\n")
-        self.printed = [] if self.safety.old else [NOTHING_FINE]
-        for repair in repairs(lines if lines[-1] else lines[:-1]):
-            reason = self._dropped(repair)
+        opened = before(self.machine)
+        times = 1
+        while True:
+            kept = self._round(lines if lines[-1] else lines[:-1])
+            faults = [] if self.safety.moved else self.agreement.faults(self.machine.present)
+            if not faults:
+                return
+            for fault in faults:
+                self._bar(kept, fault, times)
+            times *= 2
+            vars(self.machine).update(opened, past=list(opened["past"]), made=list(opened["made"]), future=[], unmade=[])
+
+    def _round(self, lines: List[bytes]) -> List[Tuple[int, int]]:
+        """Tries each repair. Gives the places of the first lines of those that are kept, and when what they changed last rises."""
+        self.printed, self.refused, self.last = [] if self.safety.old else [NOTHING_FINE], False, self.safety.old
+        place, kept = 0, []
+        for repair in repairs(lines):
+            reason = self._dropped(repair, self.bars.get(place))
             if reason is None:
                 self.printed += repair
+                kept += [] if [word_of(line) for line in repair] == [REMARK] else [(place, self._moment())]
             else:
                 self.refused = True
                 self.printed += [NOT_KEPT + reason.encode(), *map(commented, repair)]
+            place += len(repair)
+        return kept
+
+    def _moment(self) -> int:
+        cursor, pulses = self.machine.present.cursor, self.machine.present.pulses()
+        return pulses[cursor - 1][0] if 0 < cursor <= len(pulses) else 0
+
+    def _bar(self, kept: List[Tuple[int, int]], fault: Fault, times: int) -> None:
+        """Bars what was kept between the frames that were fine around a fault. If there is nothing, or in a late round, it is the nearest
+        repair on each side, and all up to that many times as far."""
+        rises = [frame.rise for frame in self.safety.old]
+        later = bisect_right(rises, fault.moment)
+        between = [place for place, moment in kept if bisect_right(rises, moment) == later and times <= FEW]
+        self.bars.update((place, fault.what) for place in between)
+        for is_before in () if between else (True, False):
+            near = [(abs(moment - fault.moment), place) for place, moment in kept if (moment <= fault.moment) == is_before]
+            self.bars.update((place, fault.what) for far, place in near if far <= times * min(near)[0])
 
     @property
     def is_judged(self) -> bool:
@@ -434,18 +473,20 @@ class Guard:
             return b""
         return b"control functions of %d frame%s are not in the recording" % (many, b"s" * (many > 1))
 
-    def _dropped(self, repair: List[bytes]) -> Optional[str]:
-        """Tries a repair, and undoes it if it is not kept; then why."""
+    def _dropped(self, repair: List[bytes], barred: Optional[str]) -> Optional[str]:
+        """Tries a repair that is not barred, and undoes it if it is not kept; then why."""
         if len(repair) == 1 and word_of(repair[0]) == REMARK:
             return None
-        before = dict(vars(self.machine), past=list(self.machine.past), made=list(self.machine.made))
+        if barred:
+            return barred
+        old = before(self.machine)
         reason = self._stopped(repair)
         new = fine(self.machine.present)
         reason = reason or self.safety.fault(self.last, new, self.machine.present.pulses())
         if reason is None:
             self.last = [frame.shown for frame in new]
         else:
-            vars(self.machine).update(before)
+            vars(self.machine).update(old)
         return reason
 
     def _stopped(self, repair: List[bytes]) -> Optional[str]:
@@ -468,6 +509,10 @@ class Guard:
         if is_group:
             self.machine.end()
         return None
+
+
+def before(session: machine.Machine) -> Dict[str, Any]:
+    return dict(vars(session), past=list(session.past), made=list(session.made))
 
 
 def named(frame: Shown, what: str) -> str:

@@ -174,7 +174,12 @@ MOVED, MISPLACED = ": its pulses would move", ": its pulses would rise where not
 NOTHING_FINE = "# nothing to go by: no frame of the recording is fine"
 UNJUDGED = "no frame would be fine to go by"
 GONE = "the pulse at %d is in step, and would be gone"
+NO_TIME, OTHER_TIME = "the moment %d would have no time", "the moment %d would have another time"
+DOUBTED = "the moment %d would have a time, and a pulse next to it is doubted"
 LAST_BROKEN = without(SOUND, 643)
+TWO_WRONG = wide(wide(SOUND, 311, 8000), 321, 8000)  # elements 10 and 20 of frame 3, which say its time, are as wide as markers
+MEND_TWO_WRONG = ["begin", "311 force zero", "321 force zero", "end"]
+PARTED = without(SOUND, *range(321, 331), 343)  # frame 3 without elements 20 to 29, and broken without them, too
 HUNDREDTHS_BROKEN, TENS_BROKEN, SHORT_BROKEN = without(HUNDREDTHS, 643), without(TENS, 643), without(SHORT, 643)
 
 ALONE = without(SOUND, 343, *range(201, 300), *range(401, 500))  # frame 3, without element 42, between two holes
@@ -212,6 +217,12 @@ def other_way(at: int) -> int:
 def lost_three(change: Callable[[int], int]) -> List[str]:
     """The three lost frames of TURNING, at these times."""
     return ["begin", *("insert %d %d" % (rise, fall) for rise, fall in moved(steady(many=9)[300:599], change)), "end"]
+
+
+def fills(interval: int) -> List[str]:
+    """Elements 20 to 29 of frame 3, so far from each other."""
+    filled = [(3190000 + interval * place, fall - rise) for place, (rise, fall) in enumerate(SOUND[320:330], 1)]
+    return ["begin", *("insert %d %d" % (rise, rise + width) for rise, width in filled), "end"]
 
 
 def lone(micros: int) -> List[str]:
@@ -296,7 +307,7 @@ ROWS = (
     Row("control functions that are recorded, and that the nearest frames do not have", "B4", without(ONE_FUNCTION, 343),
         ["insert 3420000 3422000"], ["insert 3420000 3422000"]),
     Row("a recorded control function, a tenth of an interval later", "B4", without(ONE_FUNCTION, 343),
-        [*LATER, "363,375 shift 400", "end"], [*LATER, "363,375 shift 400", "end"]),
+        [*LATER, "363,375 shift 400", "end"], dropped(OTHER_TIME % 3619999, *LATER, "363,375 shift 400", "end")),
     Row("a recording that is upside down", "B4", TURNED,
         ["invert 0 7000000"], [NOTHING_FINE, "invert 0 7000000"]),
     Row("an empty script for it", "B4", TURNED, [], [NOTHING_FINE], judged=False),
@@ -379,7 +390,7 @@ ROWS = (
     Row("an inner pulse of a frame that an earlier repair made fine", "B4", WITHOUT_ZERO, [MEND, "242 shift 900"],
         [MEND, "242 shift 900"]),
     Row("a tenth of an interval beside its place", "B4", hole(SOUND, 3, 3), ["regen 3001001 2 " + THIRD, "regen 3001000 2 " + THIRD],
-        [*unsafe("138 12:34:54", 4001001, MISPLACED, "regen 3001001 2 " + THIRD), "regen 3001000 2 " + THIRD], filled=2),
+        [*unsafe("138 12:34:54", 4001001, MISPLACED, "regen 3001001 2 " + THIRD), *dropped(NO_TIME % 5989999, "regen 3001000 2 " + THIRD)]),
     Row("less than half an interval beside its place, and recorded", "B4", ALONE, moves(2000),
         unsafe("138 12:34:53", 3002000, MISPLACED, *moves(2000))),
     Row("pulses between recorded ones", "B4", without(SOUND, 341, 342, 343), TENTH, TENTH),
@@ -389,9 +400,19 @@ ROWS = (
     Row("a pulse that is in step", "B4", LAST_BROKEN, ["650 delete"], dropped(GONE % 6500000, "650 delete")),
     Row("the first of several", "B4", LAST_BROKEN, ["660,670 delete"], dropped(GONE % 6600000, "660,670 delete")),
     Row("one that is joined with the one before it", "B4", LAST_BROKEN, ["650,651 join"], dropped(GONE % 6510000, "650,651 join")),
+    # a hole of three intervals, between markers, is more than the law of time bridges
     Row("the one before a pulse that is lost, and the one after it", "B4", LAST_BROKEN, ["642 delete", "642 delete"],
-        ["642 delete", "642 delete"]),
+        each_dropped(NO_TIME % 6380000, "642 delete", "642 delete")),
     Row("the last pulse", "B4", LAST_BROKEN, ["$ delete"], ["$ delete"]),
+    Row("a hole in a frame that stays broken", "B4", PARTED, fills(10000), fills(10000)),
+    # element 20 is in step there, and 900 microseconds early
+    Row("the same, nine hundredths too tight", "B4", PARTED, fills(9100), dropped(OTHER_TIME % 3199100, *fills(9100))),
+    # two pulses of a frame of the code deny, so its last one has no time: the recorder can have lost and repeated time there
+    Row("two pulses of another class in a frame", "B4", TWO_WRONG, MEND_TWO_WRONG, dropped(DOUBTED % 3990000, *MEND_TWO_WRONG)),
+    Row("each alone", "B4", TWO_WRONG, MEND_TWO_WRONG[1:3], each_dropped(DOUBTED % 3990000, *MEND_TWO_WRONG[1:3])),
+    Row("the same, and frames may move", "B4", TWO_WRONG, MEND_TWO_WRONG, MEND_TWO_WRONG, moved=True),
+    Row("the same, and one in another frame", "B4", wide(TWO_WRONG, 511, 8000), [*MEND_TWO_WRONG, "# five", "511 force zero"],
+        [*dropped(DOUBTED % 3990000, *MEND_TWO_WRONG), "# five", "511 force zero"]),
     Row("one that rises a tenth of an interval later, and a microsecond more", "B4", LAST_BROKEN, ["650 shift 1000", "650 shift 1"],
         ["650 shift 1000", *dropped(GONE % 6500000, "650 shift 1")]),
     Row("one that rises a tenth of an interval earlier, and a microsecond more", "B4", LAST_BROKEN, ["650 shift -1000", "650 shift -1"],

@@ -94,9 +94,9 @@ ROWS = (
 )
 
 
-def limited():
+def limited(more=0):
     resource.setrlimit(resource.RLIMIT_CPU, (BUSY, BUSY))
-    resource.setrlimit(resource.RLIMIT_AS, (MEMORY, MEMORY))
+    resource.setrlimit(resource.RLIMIT_AS, (MEMORY + more, MEMORY + more))
 
 
 def bounded(top, name, words, made, status, text):

@@ -331,15 +331,15 @@ def of_set():
     for seed in range(6):
         made = Made(seed, "B", "2", 32, several(still, setting), hurt)
         found = made.mended()
-        own = dict(pulses_of(found.text))
+        own, before = dict(pulses_of(found.text)), dict(pulses_of(made.damaged.text))
         rises, wrong = sorted(own), {}
         for rise, fall in pulses_of(made.sound.text):
             near = nearest(rises, rise)
-            if abs(near - rise) < 1000 and name_of(own[near] - near, 10000) not in ("b", name_of(fall - rise, 10000)):
+            is_new = before.get(near) != own[near]
+            if is_new and abs(near - rise) < 1000 and name_of(own[near] - near, 10000) not in ("b", name_of(fall - rise, 10000)):
                 frame = int((rise + 0.3e6 + 500) // 1e6)
                 wrong[frame] = wrong.get(frame, 0) + 1
         hurt_now = [frame for frame, many in wrong.items() if many > 2]
-        before = dict(pulses_of(made.damaged.text))
         yield same("set, seed %d" % seed, (hurt_now, found.counts_hold(), len(before) > 0), ([], True, True))
 
 

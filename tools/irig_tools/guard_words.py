@@ -18,11 +18,14 @@ UNSUPPORTED = "fine frames would not support each other"  # no frame was fine, s
 UNJUDGED = "no frame would be fine to go by"  # the same
 OF_NO_FRAME = ("not a repair", "memory ran out")
 GONE = ("the pulse at ", " is in step, and would be gone")  # between them when it rises
+MOMENT = "the moment "  # and then its microsecond
+OF_A_MOMENT = (" would have no time", " would have another time", " would have a time, and a pulse next to it is doubted")
 REFUSED_BY_EDITOR = "refused: "  # and then number and name of the refusal
 FILLED = "control functions of %s %s are not in the recording"  # how many, and `frame` or `frames`
 
 FRAME_AT_FAULT = re.compile("frame [0-9]+ [0-9:.]+ at ([0-9]+)(?:%s)" % "|".join(map(re.escape, OF_A_FRAME)))
 PULSE_AT_FAULT = re.compile("[0-9]+".join(GONE))
+MOMENT_AT_FAULT = re.compile(MOMENT + "[0-9]+(?:%s)" % "|".join(OF_A_MOMENT))
 REFUSAL = re.compile(REFUSED_BY_EDITOR + "E[0-9]+ [A-Za-z]+")
 FILLED_LINE = re.compile(".*: " + FILLED % ("([0-9]+)", "frames?"), re.S)
 
@@ -44,7 +47,8 @@ def guard_reason(line: str) -> Optional[Reason]:
     said = line[len(NOT_KEPT):]
     fault = FRAME_AT_FAULT.fullmatch(said)
     is_of_all = said in (UNSUPPORTED, UNJUDGED)
-    if not (fault or is_of_all or said in OF_NO_FRAME or PULSE_AT_FAULT.fullmatch(said) or REFUSAL.fullmatch(said)):
+    others = (PULSE_AT_FAULT, MOMENT_AT_FAULT, REFUSAL)
+    if not (fault or is_of_all or said in OF_NO_FRAME or any(each.fullmatch(said) for each in others)):
         raise ValueError(line)
     return Reason(line[2:], int(fault[1]) if fault else None, is_of_all)
 

@@ -14,7 +14,7 @@ use Rattle.irig_guarding.specs.Repair.{Asks, IsBeyond, IsRepair, Obeyed, ObeyedA
 use Rattle.irig_guarding.specs.RepairLines.{AsksFor, IsInner, MayBeKept}
 use Rattle.irig_guarding.specs.Drops.{AreMade, Drops, Holds, IsRefusedAt, StopsAt, StopsIn, Sways}
 use Rattle.irig_guarding.specs.Cutting.{IsClosing}
-use Rattle.irig_guarding.specs.declared.reason.Reason.TheVariants.{NoRepair, NotSafe, OutOfMemory, Refused}
+use Rattle.irig_guarding.specs.declared.reason.Reason.TheVariants.{Disagrees, NoRepair, NotSafe, OutOfMemory, Refused}
 use Rattle.irig_guarding.specs.{declared.reason.Reason.Reason, declared.line.Line.Line}
 use Rattle.irig_safety.specs.{Original.OriginalView, declared.shown.Shown.Shown}
 use Rattle.irig_guarding.proofs.RepairLemmas.{beyond_edit, beyond_work, edit_of, makes, not_made, printed_repair}
@@ -134,6 +134,7 @@ line_stopped opened before a line NoRepair h =
 line_stopped opened before a line (Refused why) h = record { front = []; line = line; rest = []; whole = refl; mid = a; obeyed = refl; refused = h }
 line_stopped opened before a line OutOfMemory h = absurd h
 line_stopped opened before a line (NotSafe why) h = absurd h
+line_stopped opened before a line (Disagrees why) h = absurd h
 
 -- one line that stops a group
 pub stops_more : (a b : Machine) (front : List (List ℕ)) (line : List ℕ) (rest : List (List ℕ)) (reason : Reason) → ObeyedAll a front b → StopsAt b line reason
@@ -147,6 +148,7 @@ stops_more a b front line rest (Refused why) h k =
     record { front = front; line = line; rest = rest; whole = refl; mid = b; obeyed = h; refused = k }
 stops_more a b front line rest OutOfMemory h k = absurd k
 stops_more a b front line rest (NotSafe why) h k = absurd k
+stops_more a b front line rest (Disagrees why) h k = absurd k
 
 pub stops_here : (xs : List Line) (i : ℕ) (x : Line) (a b : Machine) (reason : Reason) → i < length xs → x ≡ get_or xs i x
     → ObeyedAll a (texts (take i xs)) b → StopsAt b x.bytes.now reason → StopsIn a (texts xs) reason
@@ -177,6 +179,7 @@ group_stopped opened before a b first last inner (Refused why) begins ends begun
 }
 group_stopped opened before a b first last inner OutOfMemory begins ends begun h = absurd h
 group_stopped opened before a b first last inner (NotSafe why) begins ends begun h = absurd h
+group_stopped opened before a b first last inner (Disagrees why) begins ends begun h = absurd h
 
 abbrev group_made : (a b c : Machine) (first last : List ℕ) (inner : List (List ℕ)) → Asks command.Begin first → Asks command.End last
     → Calls Call.Begin a told.Silent b → ObeyedAll b inner c → AreMade a (first ∷ (inner ++ last ∷ []))
@@ -204,6 +207,7 @@ group_held opened before a b c first last inner (Refused why) begins ends begun 
 }
 group_held opened before a b c first last inner OutOfMemory begins ends begun all h = group_made a b c first last inner begins ends begun all
 group_held opened before a b c first last inner (NotSafe why) begins ends begun all h = (group_made a b c first last inner begins ends begun all, h.0, h.1)
+group_held opened before a b c first last inner (Disagrees why) begins ends begun all h = absurd h
 
 -- a line that was obeyed and is dropped
 abbrev line_made : (a b : Machine) (line : List ℕ) → ObeyedAll a (line ∷ []) b → AreMade a (line ∷ [])
@@ -216,6 +220,7 @@ line_swayed opened before a b line NoRepair h k = absurd k
 line_swayed opened before a b line (Refused why) h k = absurd k
 line_swayed opened before a b line OutOfMemory h k = line_made a b line h
 line_swayed opened before a b line (NotSafe why) h k = (line_made a b line h, k.0, k.1)
+line_swayed opened before a b line (Disagrees why) h k = absurd k
 
 -- the text of one line alone
 pub one_text : (xs : List Line) (x : Line) → 1 ≤ length xs → length xs < 2 → x ≡ get_or xs 0 x → texts xs ≡ x.bytes.now ∷ []

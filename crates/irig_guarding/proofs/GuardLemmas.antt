@@ -181,8 +181,8 @@ pub safe_then : (first now : State) (known : OriginalView) → known ≡ origina
 safe_then first now known e same h = record { format = same; safe = subst (λ (o : OriginalView). IsSafeBy o now) e h }
 
 -- the head alone was printed
-pub stands_head : (m : Machine) (opened : List Shown) (out : List ℕ) → out ≡ unlines (head_lines opened) → Reaches m out m
-stands_head m opened out e =
+pub stands_head : (m now : Machine) (opened : List Shown) (out : List ℕ) → IsUndone m now → out ≡ unlines (head_lines opened) → Reaches m out now
+stands_head m now opened out undone e =
     let remarks = head_remarks opened in
     record {
       lines = head_lines opened;
@@ -190,8 +190,8 @@ stands_head m opened out e =
       cut = e;
       left = m;
       obeyed = remarks_obeyed m (head_lines opened) remarks;
-      same = record { state = refl; cursor = refl; past = refl; floor = refl };
-      redo = inl refl;
+      same = agrees_agrees m m now (record { state = refl; cursor = refl; past = refl; floor = refl }) undone.same;
+      redo = undone.redo;
     }
 
 few_taken : (n : ℕ) (xs : List ℕ) → length (take n xs) ≤ n

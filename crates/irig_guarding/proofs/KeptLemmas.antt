@@ -8,7 +8,7 @@ use Rattle.irig_script.specs.{Obey.Machine.Machine, Obey.Replies.dump_text}
 use Rattle.irig_guarding.specs.{GuardedRun.product_texts, KeptText.IsKept, KeptText.texts_or, Repair.Agrees, Undone.IsSameOrMade, Undone.RedoesNoMore}
 use Rattle.irig_guarding.specs.declared.product.Product.{Product}
 use Rattle.irig_guarding.specs.declared.product.Product.TheVariants as product
-use Rattle.irig_guarding.specs.{Fillings.Fills, Guarded.IsGuarded, GuardedRun.Guards, Reading.original_of, ScriptLength.script_limit, Trials.IsTried}
+use Rattle.irig_guarding.specs.{Agreeing.AgreesAfter, Fillings.Fills, Guarded.IsGuarded, GuardedRun.Guards, Reading.original_of, ScriptLength.script_limit, Trials.IsTried}
 use Rattle.irig_safety.specs.Terms.{TermsView}
 use Rattle.irig_script.specs.declared.obey.status.Status.{Status}
 use Rattle.irig_guarding.proofs.RedoLemmas.{same_work, unkept_same}
@@ -17,8 +17,8 @@ use Rattle.irig_guarding.proofs.RedoLemmas.{same_work, unkept_same}
 abbrev pub run_of : (terms : TermsView) (first last : Machine) (script : Option (List ℕ)) (proposal printed : List ℕ) (status : Status) (filled : ℕ)
     → IfSome script (λ all. proposal ≡ all) → length proposal ≤ script_limit → IsGuarded terms first printed last
     → IsTried terms first proposal printed status last
-    → Fills (original_of terms first.state) last.state filled → Guards terms first script
-run_of terms first last script proposal printed status filled whole short guarded tried fillings = record {
+    → Fills (original_of terms first.state) last.state filled → AgreesAfter terms first.state last.state → Guards terms first script
+run_of terms first last script proposal printed status filled whole short guarded tried fillings agrees = record {
   proposal = proposal;
   whole = whole;
   short = short;
@@ -29,7 +29,9 @@ run_of terms first last script proposal printed status filled whole short guarde
   tried = tried;
   filled = filled;
   fillings = fillings;
-  unkept = λ none. unkept_same (original_of terms first.state) first guarded.left last tried.trials tried.tried guarded.same guarded.made none;
+  unkept = λ none.
+      unkept_same (original_of terms first.state) first tried.start guarded.left last tried.trials tried.begun tried.tried guarded.same guarded.made none;
+  agrees = agrees;
 }
 
 are_same : (m n : ℕ) → m ≡ n → (m == n) ≡ true

@@ -48,19 +48,19 @@ still_known os ps qs former at come m n h (inl k) keeps =
 still_known os ps qs former at come m n h (inr k) keeps = keeps_alike os ps qs former m n (alike_after at h.0 come ps qs m n h.1 k.0 k.1) keeps
 
 -- nothing is known
-pub none_more : (xs : List (Option ℕ)) → ((p : ℕ) → get_or xs p None ≡ None) → (p : ℕ) → get_or (xs ++ None ∷ []) p None ≡ None
+pub none_more : {X : Type 0} (xs : List (Option X)) → ((p : ℕ) → get_or xs p None ≡ None) → (p : ℕ) → get_or (xs ++ None ∷ []) p None ≡ None
 none_more [] h zero = refl
 none_more [] h (suc p) = refl
 none_more (x ∷ xs) h zero = h 0
 none_more (x ∷ xs) h (suc p) = none_more xs (λ q. h (suc q)) p
 
-none_some : (o : Option ℕ) (m : ℕ) → o ≡ None → o ≡ Some m → ⊥
+pub none_some : {X : Type 0} (o : Option X) (m : X) → o ≡ None → o ≡ Some m → ⊥
 none_some o m e h = let bad : None ≡ Some m = sym e ∙ h in cc
 
 pub none_known : (o : OriginalView) (ps : List Pulse) (known : List (Option ℕ)) → ((p : ℕ) → get_or known p None ≡ None) → AreKnown o ps known
 none_known o ps known h = λ place marker e. absurd (none_some _ marker (h place) e)
 
-same_place : (p q : ℕ) → (p ≡ q) ⊎ (p ≢ q)
+pub same_place : (p q : ℕ) → (p ≡ q) ⊎ (p ≢ q)
 same_place p q = go (cases_lt p q) (cases_lt q p)
   where
     go : (p < q) ⊎ (q ≤ p) → (q < p) ⊎ (p ≤ q) → (p ≡ q) ⊎ (p ≢ q)

@@ -1,5 +1,7 @@
 pub mod AgainLemmas
 pub mod AnchorLemmas
+pub mod BackLemmas
+pub mod BarLemmas
 pub mod ControlLemmas
 pub mod DropLemmas
 pub mod FillingLemmas

@@ -10,9 +10,11 @@ use Rattle.irig_edit.specs.declared.session.refusal.Refusal.{Refusal}
 use Rattle.irig_edit.specs.declared.session.refusal.Refusal.TheVariants as refusal
 use Rattle.irig_script.specs.{Obey.Run.IsPlain, Obey.Run.unlines}
 use Rattle.irig_print.specs.{FrameLine.clock_text, FrameLine.hundredths_text, FrameLine.time_text, Row.padded}
-use Rattle.irig_guarding.specs.{Guarded.IsRemark, Reasons.fault_text, Reasons.frame_text, Reasons.head_lines, Reasons.reason_line, Reasons.reason_text, Reasons.refusal_name}
+use Rattle.irig_guarding.specs.{Guarded.IsRemark, Reasons.fault_text, Reasons.frame_text, Reasons.head_lines, Reasons.change_text, Reasons.moment_text, Reasons.reason_line, Reasons.reason_text, Reasons.refusal_name}
 use Rattle.irig_guarding.specs.declared.reason.Reason.{Reason}
-use Rattle.irig_guarding.specs.declared.reason.Reason.TheVariants.{NoRepair, NotSafe, OutOfMemory, Refused}
+use Rattle.irig_guarding.specs.declared.reason.Reason.TheVariants.{Disagrees, NoRepair, NotSafe, OutOfMemory, Refused}
+use Rattle.irig_agreement.specs.declared.fault.{Change.Change, Fault.Fault as Disagreement}
+use Rattle.irig_agreement.specs.declared.fault.Change.TheVariants as change
 use Rattle.irig_safety.specs.declared.fault.Fault.TheVariants.{Alone, Changed, Lost, Misplaced, Moved, Removed, Unjudged, Unrecorded, Unsupported}
 use Rattle.irig_safety.specs.{declared.fault.Fault.Fault, declared.shown.Shown.Shown}
 
@@ -125,6 +127,14 @@ fits_fault (Removed t) =
     record { plain = whole.plain; few = omega (arith, whole.few) }
 fits_fault Unjudged = record { plain = refl; few = omega arith }
 
+fits_change : (what : Change) → Fits 100 (change_text what)
+fits_change change.Lost = record { plain = refl; few = omega arith }
+fits_change change.Other = record { plain = refl; few = omega arith }
+fits_change change.Doubted = record { plain = refl; few = omega arith }
+
+fits_moment : (x : Disagreement) → Fits 264 (moment_text x)
+fits_moment x = both 100 164 (codes "the moment ") _ (record { plain = refl; few = omega arith }) (both 64 100 _ _ (fits_number x.moment) (fits_change x.what))
+
 fits_text : (reason : Reason) → Fits 800 (reason_text reason)
 fits_text NoRepair = record { plain = refl; few = omega arith }
 fits_text (Refused why) =
@@ -133,6 +143,7 @@ fits_text (Refused why) =
     record { plain = whole.plain; few = omega (arith, whole.few) }
 fits_text OutOfMemory = record { plain = refl; few = omega arith }
 fits_text (NotSafe why) = let whole = fits_fault why in record { plain = whole.plain; few = omega (arith, whole.few) }
+fits_text (Disagrees why) = let whole = fits_moment why in record { plain = whole.plain; few = omega (arith, whole.few) }
 
 pub reason_remark : (reason : Reason) → IsRemark (reason_line reason)
 reason_remark reason =
@@ -143,7 +154,7 @@ pub head_remarks : (opened : List Shown) → AllByRecursion IsRemark (head_lines
 head_remarks [] = (front_remark (codes "nothing to go by: no frame of the recording is fine") refl (omega arith), tt)
 head_remarks (x ∷ opened) = tt
 
-none_there : (n : ℕ) (r : Bool) → r ≡ (n == 0) → r ≡ true → n ≡ 0
+pub none_there : (n : ℕ) (r : Bool) → r ≡ (n == 0) → r ≡ true → n ≡ 0
 none_there n r is t = grind (arith, nat_tests)
 
 some_there : (n : ℕ) (r : Bool) → r ≡ (n == 0) → r ≡ false → n ≡ 0 → ⊥

@@ -10,7 +10,7 @@ use Rattle.irig_lines.specs.declared.command.Command.{Command}
 use Rattle.irig_lines.specs.declared.command.Command.TheVariants as command
 use Rattle.irig_script.specs.{Obey.Machine.Machine, Obey.Obeying.Obeys, declared.print.reply.Reply.TheVariants.Silent}
 use Rattle.irig_guarding.specs.Repair.{Agrees, IsPrinted, IsRepair, ObeyedAll}
-use Rattle.irig_guarding.specs.Undone.{HasMade, IsSameOrMade}
+use Rattle.irig_guarding.specs.Undone.{HasMade, IsSameOrMade, IsUndone}
 use Rattle.irig_guarding.specs.{RepairLines.IsIdle, Trial.KeepsNone, Trial.Trial, Trial.Tries, Trial.TriesAll, declared.reason.Reason.Reason}
 use Rattle.irig_safety.specs.Original.{OriginalView}
 use Rattle.irig_guarding.proofs.{DropLemmas.asks_one, RepairLemmas.makes, RepairLemmas.some_same}
@@ -153,10 +153,11 @@ none_made opened a b (t ∷ trials) h none =
     agrees_then a h.0 b (none_made opened h.0 b trials h.2 none.1) (none_kept opened a h.0 t.lines t.dropped none.0 h.1)
 
 -- if no repair was kept, the session is left as it was opened
-pub unkept_same : (opened : OriginalView) (first left now : Machine) (trials : List Trial) → TriesAll opened first trials now → Agrees left now
-    → IsSameOrMade first left → KeepsNone trials → work_in left ≡ work_in first
-unkept_same opened first left now trials tried same (inl e) none = e
-unkept_same opened first left now trials tried same (inr made) none =
-    let as_long : length left.past ≡ length first.past = ap length (same.past ∙ (none_made opened first now trials tried none).past) in
+pub unkept_same : (opened : OriginalView) (first start left now : Machine) (trials : List Trial) → IsUndone first start → TriesAll opened start trials now
+    → Agrees left now → IsSameOrMade first left → KeepsNone trials → work_in left ≡ work_in first
+unkept_same opened first start left now trials begun tried same (inl e) none = e
+unkept_same opened first start left now trials begun tried same (inr made) none =
+    let as_long : length left.past ≡ length first.past =
+    ap length (same.past ∙ ((none_made opened start now trials tried none).past ∙ begun.same.past)) in
     let less = made.0 in
     absurd (omega (arith, as_long, less))

@@ -11,7 +11,7 @@ use Rattle.irig_script.specs.{Obey.Machine.Machine, Obey.Run.IsPlain, Obey.Run.u
 use Rattle.irig_script.proofs.ObeyLemmas.Lines.{first_line, last_line}
 use Rattle.irig_guarding.specs.Cutting.{IsClosing, IsCut, IsCutBefore}
 use Rattle.irig_guarding.specs.Trials.{IsTried, IsTriedBefore, status_of}
-use Rattle.irig_guarding.specs.Trial.{Trial, Tries, TriesAll, proposed}
+use Rattle.irig_guarding.specs.{Trial.Trial, Trial.Tries, Trial.TriesAll, Trial.proposed, Undone.IsUndone}
 use Rattle.irig_guarding.specs.Printed.{PrintsAll, Shows}
 use Rattle.irig_guarding.specs.{Reading.fine_frames, Reading.original_of, Reasons.head_lines, Repair.Asks, Repair.texts, declared.line.Line.Line, declared.reason.Reason.Reason}
 use Rattle.irig_lines.specs.declared.command.Command.TheVariants as command
@@ -54,17 +54,26 @@ status_then [] t = refl
 status_then (x ∷ xs) t = ap (λ s. if is_none x.dropped then s else SomeRefused) (status_then xs t)
     ∙ both_ways (is_none x.dropped) (is_none t.dropped) (status_of xs) SomeRefused
 
+-- what is known of a session that agrees with the first
+pub known_first : (first start : Machine) (known : OriginalView) → IsUndone first start → known ≡ original_of known.terms start.state
+    → known ≡ original_of known.terms first.state
+known_first first start known begun e = e ∙ ap (original_of known.terms) begun.same.state
+
 -- nothing was tried yet, and the head was printed
-pub tried_none : (opened : Machine) (known : OriginalView) (rest : List (List ℕ)) (script : List ℕ) → known ≡ original_of known.terms opened.state
-    → script ≡ unlines (head_lines known.frames) → IsTriedBefore known.terms opened [] rest script AllAccepted opened
-tried_none opened known rest script are e = record {
+pub tried_none : (opened start : Machine) (known : OriginalView) (rest : List (List ℕ)) (script : List ℕ) → IsUndone opened start
+    → known ≡ original_of known.terms start.state → script ≡ unlines (head_lines known.frames)
+    → IsTriedBefore known.terms opened [] rest script AllAccepted start
+tried_none opened start known rest script begun same e = record {
   trials = [];
   whole = refl;
   cut = tt;
+  start = start;
+  begun = begun;
   tried = refl;
   printed = [];
   shown = refl;
-  text = e ∙ (ap (λ (o : OriginalView). unlines (head_lines o.frames)) are ∙ ap unlines (sym (append-nil (head_lines (fine_frames opened.state)))));
+  text = e ∙ (ap (λ (o : OriginalView). unlines (head_lines o.frames)) (known_first opened start known begun same)
+      ∙ ap unlines (sym (append-nil (head_lines (fine_frames opened.state)))));
   status = refl;
 }
 
@@ -82,7 +91,9 @@ tried_more terms opened lines front rest old new status a b dropped h cut tries 
       trials = h.trials ++ one ∷ [];
       whole = proposed-append h.trials (one ∷ []) ∙ (λ i. h.whole i ++ alone i);
       cut = cut_then h.trials (one ∷ []) rest (subst (λ (l : List (List ℕ)). IsCut h.trials (l ++ rest)) (sym alone) h.cut) (cut, tt);
-      tried = tries_then (original_of terms opened.state) opened a b h.trials (one ∷ []) h.tried (b, tries, refl);
+      start = h.start;
+      begun = h.begun;
+      tried = tries_then (original_of terms opened.state) h.start a b h.trials (one ∷ []) h.tried (b, tries, refl);
       printed = h.printed ++ shown.0;
       shown = prints_then h.trials (one ∷ []) h.printed shown.0 h.shown (shown.0, [], sym (append-nil shown.0), shown.1, refl);
       text = shown.3 ∙ (ap (λ l. l ++ unlines shown.0) h.text ∙ (sym (unlines-append (head ++ h.printed) shown.0)

@@ -35,7 +35,7 @@ redo_line command.End a b is h = redo_end a.floor a b h.1.steps
 redo_line c a b is h = redo_edit c a b is h
 
 -- an abort leaves nothing
-aborted_redo : (e f : Machine) (o : Opening) (r : Result Unit Refusal) → e.floor ≡ Some o → Steps Abort e r f → f.future ≡ []
+pub aborted_redo : (e f : Machine) (o : Opening) (r : Result Unit Refusal) → e.floor ≡ Some o → Steps Abort e r f → f.future ≡ []
 aborted_redo e f o (Ok u) floor k =
     let fell : dropped_since (Some o) (work_in e) ≡ Some (work_in f) = ap (λ (x : Option Opening). dropped_since x (work_in e)) (sym floor) ∙ k.1.steps in
     ap (λ (w : Work). w.future) (sym (some_same _ _ _ fell refl))

@@ -7,8 +7,8 @@ use Rattle.irig_lines.specs.{declared.command.Command.Command}
 use Rattle.irig_lines.specs.declared.command.Command.TheVariants as command
 use Rattle.irig_script.specs.{Obey.Machine.Machine, Obey.Obeying.Obeys, Obey.Replies.Calls}
 use Rattle.irig_script.specs.declared.print.reply.Reply.TheVariants as told
-use Rattle.irig_guarding.specs.Repair.{Asks, ObeyedAll}
-use Rattle.irig_guarding.specs.declared.reason.Reason.TheVariants.{NoRepair, NotSafe}
+use Rattle.irig_guarding.specs.{Agreeing.HasLedTo, Repair.Asks, Repair.ObeyedAll}
+use Rattle.irig_guarding.specs.declared.reason.Reason.TheVariants.{Disagrees, NoRepair, NotSafe}
 use Rattle.irig_guarding.specs.declared.reason.Reason.TheVariants.{OutOfMemory, Refused}
 use Rattle.irig_guarding.specs.declared.reason.Reason.{Reason}
 use Rattle.irig_safety.specs.{Original.OriginalView, declared.fault.Fault.Fault}
@@ -71,9 +71,10 @@ Holds opened last old (Refused why) =
 Holds opened last old reason = Sways opened last old.state reason
 
 -- why a repair is dropped: it is none; or the editor refuses a line of it; or memory runs out for
--- what its lines lead to; or that may not stay
+-- what its lines lead to; or that may not stay; or it is barred, as a result had this fault
 abbrev pub Drops : OriginalView → List Shown → Machine → List (List ℕ) → Reason → Type 0
 Drops opened last old lines NoRepair = MayBeKept lines → ⊥
 Drops opened last old lines (Refused why) = IsRefusedAt old lines why
 Drops opened last old lines OutOfMemory = AreMade old lines
 Drops opened last old lines (NotSafe why) = IsUnsafe opened last old lines why
+Drops opened last old lines (Disagrees why) = HasLedTo opened.pulses old.state.format why

@@ -14,7 +14,8 @@ use Rattle.irig_guarding.specs.declared.product.GuardFault.{GuardFault}
 use Rattle.irig_guarding.specs.declared.product.GuardFault.TheVariants.{Dump, ReadFailed}
 use Rattle.irig_guarding.specs.declared.product.GuardFault.TheVariants.{OutOfMemory, PrintFailed}
 use Rattle.irig_guarding.specs.declared.product.GuardFault.TheVariants.{ScriptTooLong, WriteFailed}
-use Rattle.irig_guarding.specs.{Fillings.Fills, Guarded.IsGuarded, Reading.original_of}
+use Rattle.irig_guarding.specs.{Agreeing.AgreesAfter, Fillings.Fills, Guarded.IsGuarded}
+use Rattle.irig_guarding.specs.Reading.{original_of}
 use Rattle.irig_guarding.specs.ScriptLength.{IsShort, IsTooLong, script_limit}
 use Rattle.irig_guarding.specs.{Judged.is_judged_by, Trial.KeepsNone, Trials.IsTried}
 use Rattle.irig_guarding.specs.declared.product.Kept.{Kept}
@@ -29,7 +30,8 @@ product_texts product.Session m = saved_text (work_in m) ∷ []
 
 -- the proposed script was run under guard, repair by repair: what it printed, what it left, its
 -- status, and how many frames have a control function then that is not in the recording. If no
--- repair was kept, it left the session as it was opened, also what can be redone
+-- repair was kept, it left the session as it was opened, also what can be redone. What it left
+-- agrees with the recording
 pub record Guards (terms : TermsView) (first : Machine) (script : Option (List ℕ)) : Type 0 where
   pub proposal : List ℕ
   pub whole : IfSome script (λ all. proposal ≡ all)
@@ -42,6 +44,7 @@ pub record Guards (terms : TermsView) (first : Machine) (script : Option (List �
   pub filled : ℕ
   pub fillings : Fills (original_of terms first.state) last.state filled
   pub unkept : KeepsNone tried.trials → work_in guarded.left ≡ work_in first
+  pub agrees : AgreesAfter terms first.state last.state
 
 -- it was run, its result was printed, what is asked for was written of what the printed script
 -- leaves, if there was a frame to go by, and the status says whether all of it was kept; or memory

@@ -1,3 +1,4 @@
+pub mod Agreeing
 pub mod Controls
 pub mod Cutting
 pub mod Drops

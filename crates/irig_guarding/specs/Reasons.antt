@@ -4,8 +4,11 @@ use Rattle.irig_edit.specs.declared.session.refusal.Refusal.{Refusal}
 use Rattle.irig_script.specs.Print.Printed.{refusal_text}
 use Rattle.irig_print.specs.FrameLine.{time_text}
 use Rattle.irig_guarding.specs.declared.reason.Reason.{Reason}
-use Rattle.irig_guarding.specs.declared.reason.Reason.TheVariants.{NoRepair, NotSafe, OutOfMemory}
-use Rattle.irig_guarding.specs.declared.reason.Reason.TheVariants.{Refused}
+use Rattle.irig_guarding.specs.declared.reason.Reason.TheVariants.{Disagrees, NoRepair, NotSafe}
+use Rattle.irig_guarding.specs.declared.reason.Reason.TheVariants.{OutOfMemory, Refused}
+use Rattle.irig_agreement.specs.declared.fault.Change.{Change}
+use Rattle.irig_agreement.specs.declared.fault.Change.TheVariants as change
+use Rattle.irig_agreement.specs.declared.fault.Fault.{Fault as Disagreement}
 use Rattle.irig_safety.specs.declared.fault.Fault.{Fault}
 use Rattle.irig_safety.specs.declared.fault.Fault.TheVariants.{Alone, Changed, Lost, Misplaced, Moved}
 use Rattle.irig_safety.specs.declared.fault.Fault.TheVariants.{Removed, Unjudged, Unrecorded, Unsupported}
@@ -35,12 +38,23 @@ fault_text (Removed t) =
     codes "the pulse at " ++ decimal t ++ codes " is in step, and would be gone"
 fault_text Unjudged = codes "no frame would be fine to go by"
 
+-- how the time of a moment would not be as it was
+abbrev pub change_text : Change → List ℕ
+change_text change.Lost = codes " would have no time"
+change_text change.Other = codes " would have another time"
+change_text change.Doubted = codes " would have a time, and a pulse next to it is doubted"
+
+-- why recording and result would not agree: a moment, in microseconds
+abbrev pub moment_text : Disagreement → List ℕ
+moment_text x = codes "the moment " ++ decimal x.moment ++ change_text x.what
+
 -- why a repair is not kept
 abbrev pub reason_text : Reason → List ℕ
 reason_text NoRepair = codes "not a repair"
 reason_text (Refused why) = codes "refused: " ++ refusal_name why
 reason_text OutOfMemory = codes "memory ran out"
 reason_text (NotSafe fault) = fault_text fault
+reason_text (Disagrees fault) = moment_text fault
 
 -- the comment before the lines of a repair that is not kept
 abbrev pub reason_line : Reason → List ℕ

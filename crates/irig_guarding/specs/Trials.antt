@@ -13,6 +13,7 @@ use Rattle.irig_safety.specs.{Terms.TermsView}
 use Rattle.irig_guarding.specs.Cutting.{IsCut}
 use Rattle.irig_guarding.specs.Printed.{PrintsAll}
 use Rattle.irig_guarding.specs.Trial.{Trial, TriesAll, proposed}
+use Rattle.irig_guarding.specs.Undone.{IsUndone}
 
 -- the status: whether each repair was kept
 abbrev pub status_of : List Trial → Status
@@ -20,14 +21,16 @@ status_of [] = AllAccepted
 status_of (t ∷ trials) = if is_none t.dropped then status_of trials else SomeRefused
 
 -- lines of a script were cut into repairs before a rest of it, each was tried from the opened
--- session on, and this was printed after the head
+-- session on, in which what could be redone can be gone, and this was printed after the head
 pub record IsTriedBefore (terms : TermsView) (opened : Machine) (lines rest : List (List ℕ))
     (script : List ℕ)
     (reported : Status) (now : Machine) : Type 0 where
   pub trials : List Trial
   pub whole : proposed trials ≡ lines
   pub cut : IsCut trials rest
-  pub tried : TriesAll (original_of terms opened.state) opened trials now
+  pub start : Machine
+  pub begun : IsUndone opened start
+  pub tried : TriesAll (original_of terms opened.state) start trials now
   pub printed : List (List ℕ)
   pub shown : PrintsAll trials printed
   pub text : script ≡ unlines (head_lines (fine_frames opened.state) ++ printed)

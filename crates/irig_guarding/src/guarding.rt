@@ -1,68 +1,77 @@
 //! A proposed script, run repair by repair.
 
-ghost use Rattle.std.specs.Prelude.{◌≡◌, [], IfOk, None, OnOk, is_none, if◌then◌else◌};
-ghost use Rattle.irig_guarding.specs.Guarded.{IsGuarded, IsSafeAfter, Reaches};
-ghost use Rattle.irig_guarding.specs.{Trials.IsTried, Trials.IsTriedBefore, Printed.Shows};
+ghost use Rattle.std.specs.Prelude.{◌≡◌, [], IfOk, IfSome, None, OnOk, is_none, if◌then◌else◌};
+ghost use Rattle.irig_guarding.specs.Guarded.{IsSafeAfter, Reaches};
+ghost use Rattle.irig_guarding.specs.{Trials.IsTriedBefore, Printed.Shows, Undone.IsUndone};
 ghost use Rattle.irig_guarding.specs.{Trial.Tries, SafeBy.IsSafeBy, Fillings.Fills, Known.AreKnown};
+ghost use Rattle.irig_guarding.specs.Agreeing.{AreBars, HasLedTo};
 ghost use Rattle.irig_guarding.specs.Judged.{is_judged_by};
 ghost use Rattle.irig_guarding.specs.Reading.{Lists, original_of};
 ghost use Rattle.irig_guarding.specs.{Reasons.head_lines, Repair.texts};
 ghost use Rattle.irig_script.specs.Obey.Run.{unlines};
 ghost use Rattle.irig_script.specs.declared.obey.status.Status.TheVariants.{SomeRefused};
+ghost use Rattle.irig_script.specs.{Obey.Machine.Machine};
 
+use crate::bars::{KeptAt, bar_at, kept_at};
 use crate::commands::is_lone_comment;
 use crate::cutting::repair_end;
 use crate::fillings::count_filled;
 use crate::judging::is_judged;
 use crate::known::{learn_markers, nothing_known};
 use crate::line::Line;
-use crate::lines::lines_of;
 use crate::mending::keep_if_safe;
-use crate::opening::original_of;
 use crate::printing::{put_head, put_repair};
 use crate::product::Kept;
 use crate::reason::Reason;
 use crate::seen::{Frames, list_frames};
+use irig_agreement::Fault;
 use irig_edit::Session;
-use irig_safety::{Original, Terms};
+use irig_safety::Original;
 use irig_script::Status;
 use std::alloc::{AllocError, Global};
 
-/// Runs a proposed script on a session repair by repair; no group is open in it. A repair that is
-/// kept is printed as it is, and so are comments.
-pub fn guard(
+/// Runs lines on a session repair by repair, and prints each one. A repair that is kept is printed
+/// as it is, and added to `kept`; one that is barred is dropped.
+pub fn guard_once(
     alloc: Global,
     session: &mut Session,
-    terms: Terms,
-    script: &[u8],
+    opened: &Original,
+    lines: &[Line<'_>],
+    bars: &[Option<Fault>],
+    kept: &mut Vec<KeptAt>,
 ) -> Result<(Vec<u8>, Kept), AllocError>
-    requires { session.old.floor ≡ None }
-    ensures guarded { IfOk result (λ done. IsGuarded terms session.old done.0.items session.new) }
-    ensures tried { IfOk result (λ done. IsTried terms session.old script.now done.0.items
-        done.1.status session.new) }
-    ensures filled { IfOk result (λ done. Fills (original_of terms session.old.state)
-        session.new.state done.1.filled) }
+    requires closed { session.old.floor ≡ None }
+    requires opened { opened.now ≡ original_of opened.now.terms session.old.state }
+    requires bars { AreBars opened.now.pulses session.old.state.format bars.now }
+    ensures reaches { (first : Machine) → IsUndone first session.old
+        → IfOk result (λ done. Reaches first done.0.items session.new) }
+    ensures closed { OnOk result (session.new.floor ≡ None) }
+    ensures safe { OnOk result (IsSafeAfter opened.now.terms session.old.state
+        session.new.state) }
+    ensures tried { (first : Machine) → IsUndone first session.old → IfOk result (λ done.
+        IsTriedBefore opened.now.terms first (texts lines.now) [] done.0.items done.1.status
+        session.new) }
+    ensures filled { IfOk result (λ done. Fills opened.now session.new.state done.1.filled) }
     ensures judged { IfOk result (λ done. done.1.judged
         ≡ is_judged_by session.old.state session.new.state) }
 {
-    let opened = original_of(alloc, session, terms)?;
-    let lines = lines_of(alloc, script)?;
-    let proposed = lines.as_slice();
     let mut out = Vec::new(alloc);
     put_head(&mut out, opened.frames())?;
     let mut known_markers = nothing_known(alloc, opened.frames().len())?;
     let mut last = list_frames(alloc, session)?;
-    learn_markers(session, &opened, last.seen.as_slice(), &mut known_markers);
+    learn_markers(session, opened, last.seen.as_slice(), &mut known_markers);
     let status = guard_lines(
         alloc,
         session,
-        &opened,
+        opened,
         &mut known_markers,
         &mut last,
-        proposed,
+        lines,
+        bars,
+        kept,
         &mut out,
     )?;
-    let filled = count_filled(session, &opened, last.seen.as_slice());
+    let filled = count_filled(session, opened, last.seen.as_slice());
     let judged = is_judged(opened.frames(), last.shown.as_slice());
     let kept = Kept {
         status,
@@ -80,20 +89,25 @@ fn guard_lines(
     known_markers: &mut Vec<Option<usize>>,
     last: &mut Frames,
     lines: &[Line<'_>],
+    bars: &[Option<Fault>],
+    kept: &mut Vec<KeptAt>,
     out: &mut Vec<u8>,
 ) -> Result<Status, AllocError>
     requires closed { session.old.floor ≡ None }
     requires known { AreKnown opened.now session.old.state.pulses known_markers.old.items }
     requires lists { Lists session.old.state last.old }
     requires opened { opened.now ≡ original_of opened.now.terms session.old.state }
+    requires bars { AreBars opened.now.pulses session.old.state.format bars.now }
     requires head { out.old.items ≡ unlines (head_lines opened.now.frames) }
-    ensures stands { OnOk result (Reaches session.old out.new.items session.new) }
+    ensures stands { (first : Machine) → IsUndone first session.old
+        → OnOk result (Reaches first out.new.items session.new) }
     ensures closed { OnOk result (session.new.floor ≡ None) }
     ensures lists { OnOk result (Lists session.new.state last.new) }
     ensures safe { OnOk result (IsSafeAfter opened.now.terms session.old.state
         session.new.state) }
-    ensures tried { IfOk result (λ status. IsTriedBefore opened.now.terms session.old
-        (texts lines.now) [] out.new.items status session.new) }
+    ensures tried { (first : Machine) → IsUndone first session.old → IfOk result (λ status.
+        IsTriedBefore opened.now.terms first (texts lines.now) [] out.new.items status
+        session.new) }
 {
     let mut at = 0;
     let mut status = Status::AllAccepted;
@@ -106,12 +120,21 @@ fn guard_lines(
             known_markers,
             last,
             &lines[at..end],
+            bar_at(bars, at),
             out,
         )?;
+        if is_repair(&lines[at..end], dropped) {
+            kept.push(kept_at(session, at))?;
+        }
         status = status_with(status, dropped);
         at = end;
     }
     Ok(status)
+}
+
+/// Whether lines that were tried are a repair that was kept.
+fn is_repair(lines: &[Line<'_>], dropped: Option<Reason>) -> bool {
+    dropped.is_none() && !is_lone_comment(lines)
 }
 
 /// The status after one more repair.
@@ -132,12 +155,15 @@ fn guard_repair(
     known_markers: &mut Vec<Option<usize>>,
     last: &mut Frames,
     repair: &[Line<'_>],
+    barred: Option<Fault>,
     out: &mut Vec<u8>,
 ) -> Result<Option<Reason>, AllocError>
     requires closed { session.old.floor ≡ None }
     requires known { AreKnown opened.now session.old.state.pulses known_markers.old.items }
     requires lists { Lists session.old.state last.old }
     requires safe { IsSafeBy opened.now session.old.state }
+    requires barred { IfSome barred (λ why. HasLedTo opened.now.pulses session.old.state.format
+        why) }
     ensures safe { IsSafeBy opened.now session.new.state }
     ensures closed { session.new.floor ≡ None }
     ensures format { session.new.state.format ≡ session.old.state.format }
@@ -148,14 +174,14 @@ fn guard_repair(
     ensures printed { IfOk result (λ dropped. Shows (texts repair.now) dropped out.old.items
         out.new.items) }
 {
-    let dropped = try_repair(alloc, session, opened, known_markers, last, repair)?;
+    let dropped = try_repair(alloc, session, opened, known_markers, last, repair, barred)?;
     put_repair(out, repair, dropped)?;
     Ok(dropped)
 }
 
-/// Tries one repair. Returns why it was dropped; `None` if it was kept. If it was kept,
-/// `known_markers` and `last` become those after it. If it was dropped, it is undone for good:
-/// nothing has changed, but nothing may be left to redo.
+/// Tries one repair, unless it is barred. Returns why it was dropped; `None` if it was kept. If it
+/// was kept, `known_markers` and `last` become those after it. If it was dropped, it is undone for
+/// good: nothing has changed, but nothing may be left to redo.
 fn try_repair(
     alloc: Global,
     session: &mut Session,
@@ -163,11 +189,14 @@ fn try_repair(
     known_markers: &mut Vec<Option<usize>>,
     last: &mut Frames,
     repair: &[Line<'_>],
+    barred: Option<Fault>,
 ) -> Result<Option<Reason>, AllocError>
     requires closed { session.old.floor ≡ None }
     requires known { AreKnown opened.now session.old.state.pulses known_markers.old.items }
     requires lists { Lists session.old.state last.old }
     requires safe { IsSafeBy opened.now session.old.state }
+    requires barred { IfSome barred (λ why. HasLedTo opened.now.pulses session.old.state.format
+        why) }
     ensures safe { IsSafeBy opened.now session.new.state }
     ensures closed { session.new.floor ≡ None }
     ensures format { session.new.state.format ≡ session.old.state.format }
@@ -178,6 +207,9 @@ fn try_repair(
 {
     if is_lone_comment(repair) {
         return Ok(None);
+    }
+    if let Some(fault) = barred {
+        return Ok(Some(Reason::Disagrees(fault)));
     }
     let mut tried = known_markers.clone()?;
     match keep_if_safe(

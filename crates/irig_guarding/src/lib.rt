@@ -2,8 +2,10 @@
 #![tactic(auto)]
 
 mod anchors;
+mod bars;
 mod commands;
 mod controls;
+mod copying;
 mod cutting;
 mod elements;
 mod fillings;
@@ -28,9 +30,11 @@ mod pulses;
 mod reading;
 mod reason;
 mod reason_text;
+mod rounds;
 mod run;
 mod seen;
 mod steps;
+mod undoing;
 
 pub use law::{printed_scripts_are_obeyed, safe_states_are_kept_or_borne_out};
 pub use others::add_frames;

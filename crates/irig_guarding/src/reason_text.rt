@@ -2,10 +2,11 @@
 
 ghost use Rattle.std.specs.Prelude.{◌≡◌, ◌++◌, ◌∷◌, [], OnOk};
 ghost use Rattle.irig_guarding.specs.Reasons.{fault_text, frame_text, reason_line};
-ghost use Rattle.irig_guarding.specs.Reasons.{reason_text, refusal_name};
+ghost use Rattle.irig_guarding.specs.Reasons.{change_text, moment_text, reason_text, refusal_name};
 
 use crate::frame_text::put_frame;
 use crate::reason::Reason;
+use irig_agreement::{Change, Fault as Disagreement};
 use irig_edit::Refusal;
 use irig_print::Row;
 use irig_safety::{Fault, Shown};
@@ -30,6 +31,7 @@ fn put_text(out: &mut Vec<u8>, reason: Reason) -> Result<(), AllocError>
         Reason::Refused(why) => put_refusal(out, why),
         Reason::OutOfMemory => out.extend_from_slice(b"memory ran out"),
         Reason::NotSafe(fault) => put_fault(out, fault),
+        Reason::Disagrees(fault) => put_moment(out, fault),
     }
 }
 
@@ -79,6 +81,28 @@ fn put_removed(out: &mut Vec<u8>, rise: u64) -> Result<(), AllocError>
     row.put_number(rise);
     row.put(b" is in step, and would be gone");
     out.extend_from_slice(row.text())
+}
+
+/// Prints how recording and result would not agree.
+fn put_moment(out: &mut Vec<u8>, fault: Disagreement) -> Result<(), AllocError>
+    ensures { OnOk result (out.new.items ≡ out.old.items ++ moment_text fault) }
+{
+    let mut row = Row::new();
+    row.put(b"the moment ");
+    row.put_number(fault.moment);
+    row.put(change_text(fault.what));
+    out.extend_from_slice(row.text())
+}
+
+/// How the time of a moment would not be as it was.
+fn change_text(change: Change) -> &'static [u8]
+    ensures { result.now ≡ change_text change }
+{
+    match change {
+        Change::Lost => b" would have no time",
+        Change::Other => b" would have another time",
+        Change::Doubted => b" would have a time, and a pulse next to it is doubted",
+    }
 }
 
 /// Prints that the editor refuses a line: `refused: `, and the number and the name of its refusal.

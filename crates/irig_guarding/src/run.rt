@@ -13,8 +13,8 @@ ghost use Rattle.irig_guarding.specs.KeptText.{IsKept, texts_or};
 ghost use Rattle.irig_script.specs.Obey.Desk.{desk};
 ghost use Rattle.irig_text.specs.Shelved.{Puts};
 
-use crate::guarding::guard;
 use crate::product::{GuardFault, Kept, Product};
+use crate::rounds::guard;
 use irig_codes::Format;
 use irig_edit::Session;
 use irig_print::put_all;

@@ -1,34 +1,44 @@
 use Rattle.std.proofs.Common.{◌∙◌, arith, refl}
+use Rattle.irig_guarding.proofs.BarLemmas.{bar_so}
 use Rattle.irig_guarding.proofs.GuardLemmas.{safe_at_first, safe_then, stands_head, stands_tried}
-use Rattle.irig_guarding.proofs.TrialLemmas.{tried_all, tried_none, tried_step}
+use Rattle.irig_guarding.proofs.TrialLemmas.{known_first, tried_all, tried_none, tried_step}
 use Rattle.irig_guarding.proofs.guarding.guard_lines.Goals as goal
 
 pub loop-at-init : goal.loop-at-init
 loop-at-init c = (
-  stands_head c.args.session.now c.args.opened.now.frames _ c.requires.head,
+  λ first undone. stands_head first c.args.session.now c.args.opened.now.frames _ undone c.requires.head,
   safe_at_first c.args.session.now.state _ c.requires.opened,
   refl,
   c.requires.closed,
   omega arith,
   c.requires.known,
-  tried_none c.args.session.now c.args.opened.now _ _ c.requires.opened c.requires.head,
+  λ first undone. tried_none first c.args.session.now c.args.opened.now _ _ undone c.requires.opened c.requires.head,
   c.requires.lists,
 )
+
+pub guard_repair-requires-clause-barred : goal.guard_repair-requires-clause-barred
+guard_repair-requires-clause-barred c =
+    bar_so c.args.opened.now.pulses c.args.session.now.state.format c.loop-at.session.state.format c.args.bars.now c.loop-at.at _ c.bar_at.ensures
+    c.requires.bars c.loop-at.invariant.2
 
 pub loop-at-preserved : goal.loop-at-preserved
 loop-at-preserved c =
     let s = c.loop-at.invariant in (
-      stands_tried c.args.session.now c.args.opened.now _ _ _ _ _ _ c.in_ok-dropped.ensures.tried c.in_ok-dropped.ensures.printed s.0,
+      λ first undone. stands_tried first c.args.opened.now _ _ _ _ _ _ c.in_ok-dropped.ensures.tried c.in_ok-dropped.ensures.printed (s.0 first undone),
       c.guard_repair.ensures.safe,
       c.guard_repair.ensures.format ∙ s.2,
       c.guard_repair.ensures.closed,
       c.repair_end-end.ensures.within,
       c.guard_repair.ensures.known,
-      tried_step c.args.session.now c.args.opened.now c.args.lines.now _ _ _ _ _ _ _ _ _ c.requires.opened c.repair_end-end.ensures.more s.6
+      λ first undone. tried_step first c.args.opened.now c.args.lines.now _ _ _ _ _ _ _ _ _
+          (known_first first c.args.session.now c.args.opened.now undone c.requires.opened) c.repair_end-end.ensures.more (s.6 first undone)
           c.repair_end-end.ensures.cut
           c.in_ok-dropped.ensures.tried c.in_ok-dropped.ensures.printed c.status_with-status.ensures,
       c.guard_repair.ensures.lists,
     )
+
+pub returns-clause-stands : goal.returns-clause-stands
+returns-clause-stands c = c.loop-at.invariant.0
 
 pub returns-clause-closed : goal.returns-clause-closed
 returns-clause-closed c = c.loop-at.invariant.3
@@ -41,4 +51,5 @@ returns-clause-safe c =
     let s = c.loop-at.invariant in safe_then c.args.session.now.state _ c.args.opened.now c.requires.opened s.2 s.1
 
 pub returns-clause-tried : goal.returns-clause-tried
-returns-clause-tried c = tried_all c.args.opened.now.terms c.args.session.now c.args.lines.now _ _ _ _ c.loop-at-test.false c.loop-at.invariant.6
+returns-clause-tried c = λ first undone.
+    tried_all c.args.opened.now.terms first c.args.lines.now _ _ _ _ c.loop-at-test.false (c.loop-at.invariant.6 first undone)

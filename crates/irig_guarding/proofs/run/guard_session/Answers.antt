@@ -13,7 +13,8 @@ returns-in_default-put_all-clause-ends g c = (
       c.in-Ok-guard.ensures.guarded
       (subst (λ (l : List ℕ). IsTried c.args.terms c.args.session.now l c.in-Ok-guard.printed.items c.in-Ok-guard.kept.status c.guard.new.session)
       c.as_slice.ensures.value c.in-Ok-guard.ensures.tried)
-      c.in-Ok-guard.ensures.filled,
+      c.in-Ok-guard.ensures.filled
+      c.in-Ok-guard.ensures.agrees,
   search rules,
   refl,
 )
@@ -33,7 +34,8 @@ returns-in-Ok-write_if_judged-clause-ends g c =
           guarded
           (subst (λ (l : List ℕ). IsTried c.args.terms first l c.in-Ok-guard.printed.items c.in-Ok-guard.kept.status now)
           c.as_slice.ensures.value c.in-Ok-guard.ensures.tried)
-          c.in-Ok-guard.ensures.filled,
+          c.in-Ok-guard.ensures.filled
+          c.in-Ok-guard.ensures.agrees,
       refl,
       refl,
       c.in-Ok-guard.ensures.judged,
@@ -49,7 +51,8 @@ returns-clause-ends g c = (
       c.in-Ok-guard.ensures.guarded
       (subst (λ (l : List ℕ). IsTried c.args.terms c.args.session.now l c.in-Ok-guard.printed.items c.in-Ok-guard.kept.status c.guard.new.session)
       c.as_slice.ensures.value c.in-Ok-guard.ensures.tried)
-      c.in-Ok-guard.ensures.filled,
+      c.in-Ok-guard.ensures.filled
+      c.in-Ok-guard.ensures.agrees,
   search rules,
   search rules,
 )
