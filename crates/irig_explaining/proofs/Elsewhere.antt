@@ -25,6 +25,13 @@ elsewhere_more price place rises before after a old new all last bound so_far le
       ];
 }
 
+-- none costs less than what is less
+pub elsewhere_less : (price place : Price) (rises : Rises) (before after : List Node) (a : Asked) (steps : Steps) (last bound : ℕ)
+    → Elsewhere price place rises before after a steps last → bound ≤ last → Elsewhere price place rises before after a steps bound
+elsewhere_less price place rises before after a steps last bound so_far le = record {
+  least = λ r e q f k x y step over unlike start end. omega (arith, so_far.least r e q f k x y step over unlike start end, le);
+}
+
 -- these were all
 pub elsewhere_all : (price place : Price) (rises : Rises) (before after : List Node) (a : Asked) (old all : Steps) (bound : ℕ)
     → Elsewhere price place rises before after a old bound
@@ -42,7 +49,7 @@ node_low price rises nodes r e x low are there small least costs =
     omega (arith, cheap, known.costs.exact, known.cheap, least known.node known.there known.beside)
 
 -- the least cost of a claim is one
-same_cost : (price : Price) (rises : Rises) (nodes : List Node) (r e x y : ℕ) → IsCost price rises nodes r e x → IsCost price rises nodes r e y
+pub same_cost : (price : Price) (rises : Rises) (nodes : List Node) (r e x y : ℕ) → IsCost price rises nodes r e x → IsCost price rises nodes r e y
     → x ≤ y
 same_cost price rises nodes r e x y one other =
     omega (arith, below_cost price rises nodes r e one.way.cost y one.is.low other, one.exact)

@@ -7,7 +7,6 @@ use Rattle.std.proofs.lemmas.Bool.{cases_lt}
 use Rattle.std.proofs.lemmas.List.{get_or_append_left, get_or-append_right}
 use Rattle.std.proofs.lemmas.List.Elements.{All-append, All-contains, All-weaker, Contains-append_cases, Contains-append_left, Contains-append_right}
 use Rattle.irig_explaining.specs.declared.{rises.Rises.Rises, nodes.Node.Node, ways.Way.Way}
-use Rattle.irig_explaining.specs.declared.claim.Kind.TheVariants.{Jump}
 use Rattle.irig_explaining.specs.Explanation.{Price}
 use Rattle.irig_explaining.specs.Nodes.{AreNodes, ComesFrom, IsCost, IsKnown, IsLeast, IsLow, IsNode}
 use Rattle.irig_explaining.specs.Rows.{AreKept, IsBeaten, IsIn, IsLeastOf, IsMost, IsRow, node_of}
@@ -93,7 +92,7 @@ left_out price rises nodes row more r best e is kept lt there beaten = record {
   least = get_or row e 0;
   costs = cost_still price rises nodes more r r e (get_or row e 0) (row_from price row more r best kept) (omega arith) (is.each e there);
   cheap = beaten.cheap;
-  steps = λ q f k. (Jump, beaten.steps q f k);
+  steps = inr beaten.steps;
 }
 
 -- one whose node is kept
@@ -107,7 +106,7 @@ kept_itself price rises nodes row more r best e is kept lt there = record {
   least = get_or row e 0;
   costs = cost_still price rises nodes more r r e (get_or row e 0) (row_from price row more r best kept) (omega arith) (is.each e lt);
   cheap = omega arith;
-  steps = λ q f k. (k, omega arith);
+  steps = inl refl;
 }
 
 known_new : (price : Price) (rises : Rises) (nodes : List Node) (row : List ℕ) (more : List Node) (r best e : ℕ)

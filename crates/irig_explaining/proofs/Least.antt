@@ -1,9 +1,10 @@
 -- No explanation is cheaper than the cheapest end.
-use Rattle.std.proofs.Common.{◌+◌, ◌-◌, ◌*◌, ◌<◌, ◌≤◌, ℕ, List, [], ◌∷◌, subst, arith}
+use Rattle.std.proofs.Common.{◌≡◌, ◌+◌, ◌-◌, ◌*◌, ◌<◌, ◌≤◌, ℕ, List, [], ◌∷◌, ap, subst, inl, inr, arith}
 use Rattle.irig_explaining.specs.declared.{claim.Claim.Claim, claim.Kind.Kind, rises.Rises.Rises, ends.End.End, nodes.Node.Node}
 use Rattle.irig_explaining.specs.Ends.{IsEnd}
 use Rattle.irig_explaining.specs.Explanation.{Price, IsClaim, AreClaims, IsExplanation, cost, cost_after}
-use Rattle.irig_explaining.specs.Nodes.{AreNodes, IsKnown, IsLow, Within}
+use Rattle.irig_explaining.specs.declared.claim.Kind.TheVariants.{Jump}
+use Rattle.irig_explaining.specs.Nodes.{AreNodes, IsKnown, IsLow, Within, going}
 
 pub first_is : (rises : Rises) (c : Claim) (cs : List Claim) → AreClaims rises c cs → IsClaim rises c
 first_is rises c [] h = h
@@ -17,13 +18,22 @@ IsSpent price rises nodes q f spent = (low : ℕ) → IsLow price rises nodes q 
 pub spent_first : (price : Price) (rises : Rises) (nodes : List Node) (q f : ℕ) → IsSpent price rises nodes q f (rises.skip * q)
 spent_first price rises nodes q f low h = h.first
 
--- a step from a claim, by the node that stands for it
+-- a step from a claim, by a node that is it
+pub same_step : (price : Price) (n : Node) (r e q f x : ℕ) (k : Kind) → n.rise ≡ r → n.element ≡ e → n.cost ≤ x
+    → going price n q f k ≤ x + price r e q f k
+same_step price n r e q f x k beside same cheap =
+    omega (arith, ap (λ v. price v n.element q f k) beside, ap (λ v. price r v q f k) same, cheap)
+
+-- and by the node that stands for it
 pub spent_step : (price : Price) (rises : Rises) (nodes : List Node) (r e q f spent : ℕ) (k : Kind) → IsKnown price rises nodes r e
     → r < q → q ≤ r + rises.window → IsSpent price rises nodes r e spent → IsSpent price rises nodes q f (spent + price r e q f k)
 spent_step price rises nodes r e q f spent k known later near paid low h =
     let m = known.node in let same = known.beside in
     let w : Within rises m q = record { later = omega (arith, same); near = omega (arith, same) } in
-    let step = known.steps q f k in
+    let step : (l : Kind) × (going price m q f l ≤ known.least + price r e q f k) = elim known.steps [
+      | inl itself ↦ (k, same_step price m r e q f known.least k same itself known.cheap)
+      | inr jump ↦ (Jump, jump q f k)
+    ] in
     let least : known.least ≤ spent = let x = paid known.costs.way.cost known.costs.is.low in omega (arith, x, known.costs.exact) in
     omega (arith, h.steps m step.0 known.there w, step.1, least)
 

@@ -16,6 +16,7 @@ pub mod ReadBack
 pub mod Least
 pub mod Elsewhere
 pub mod Placed
+pub mod NodeSteps
 pub mod Others
 pub mod Passed
 pub mod FarApart

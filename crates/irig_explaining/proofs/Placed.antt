@@ -7,7 +7,7 @@ use Rattle.irig_explaining.specs.{Bounds.Elsewhere, Bounds.NoStep, Sure.Gives, S
 use Rattle.irig_explaining.proofs.Least.{IsSpent, first_is, known_cheap, spent_first, spent_step}
 
 -- the rise from the other end, turned back
-turned_back : (count r : ℕ) → r < count → count - 1 - (count - 1 - r) ≡ r
+pub turned_back : (count r : ℕ) → r < count → count - 1 - (count - 1 - r) ≡ r
 turned_back count r lt = omega arith
 
 -- the table of the turned recording has the least costs of what comes after claims

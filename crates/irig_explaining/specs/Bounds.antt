@@ -24,7 +24,6 @@ pub record NoStep (rises : Rises) (before after : List Node) (a : Asked) (bound 
   pub ends : (n : Node) → Contains before n → n.rise < a.interval + 1 → bound ≤ ending rises n
   pub begins : (n : Node) → Contains after n → n.rise < rises.count - 1 - a.interval
       → bound ≤ ending rises n
-  pub origin : CostsWithout rises before after a bound
 
 -- a step can lead over the interval from a rise and its element to those
 pub record IsOver (rises : Rises) (a : Asked) (r e q f : ℕ) : Type 0 where

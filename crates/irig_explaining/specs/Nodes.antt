@@ -1,8 +1,8 @@
 -- The table of nodes: claims, each with the least cost of all ways to it. This project's own.
-use Rattle.std.specs.Prelude.{ℕ, ◌≡◌, ◌+◌, ◌*◌, ◌<◌, ◌≤◌, All, Contains, List, MatchOption, Some, slice_get}
+use Rattle.std.specs.Prelude.{ℕ, ◌≡◌, ◌+◌, ◌*◌, ◌<◌, ◌≤◌, ◌⊎◌, All, Contains, List, MatchOption, Some, slice_get}
 use Rattle.std.specs.List.Sorted.{IsNonDecreasingBy}
 use Rattle.irig_explaining.specs.declared.{claim.Claim.Claim, claim.Kind.Kind, rises.Rises.Rises}
-use Rattle.irig_explaining.specs.declared.claim.Kind.TheVariants.{Next}
+use Rattle.irig_explaining.specs.declared.claim.Kind.TheVariants.{Next, Jump}
 use Rattle.irig_explaining.specs.declared.{nodes.Node.Node, ways.Way.Way}
 use Rattle.irig_explaining.specs.Explanation.{Price}
 
@@ -53,8 +53,8 @@ pub record IsNode (price : Price) (rises : Rises) (done : ℕ) (nodes : List Nod
   pub element : n.element < rises.states
   pub costs : IsCost price rises nodes n.rise n.element n.cost
 
--- a node stands for a claim: it is of its rise, costs no more, and no step from the claim is
--- cheaper than one from the node, of some kind
+-- a node stands for a claim: it is of its rise, costs no more, and is the claim itself, or no step
+-- from the claim is cheaper than a jump from the node
 pub record IsKnown (price : Price) (rises : Rises) (nodes : List Node) (r e : ℕ) : Type 0 where
   pub node : Node
   pub there : Contains nodes node
@@ -62,8 +62,8 @@ pub record IsKnown (price : Price) (rises : Rises) (nodes : List Node) (r e : �
   pub least : ℕ
   pub costs : IsCost price rises nodes r e least
   pub cheap : node.cost ≤ least
-  pub steps : (q f : ℕ) (k : Kind) → (l : Kind)
-      × (going price node q f l ≤ least + price r e q f k)
+  pub steps : (node.element ≡ e)
+      ⊎ ((q f : ℕ) (k : Kind) → going price node q f Jump ≤ least + price r e q f k)
 
 -- the nodes of the first rises, in their order: each claim of these has one that stands for it
 pub record AreNodes (price : Price) (rises : Rises) (done : ℕ) (nodes : List Node) : Type 0 where

@@ -1,5 +1,5 @@
 -- What steps cost that give an interval another place. This project's own.
-use Rattle.std.specs.Prelude.{ℕ, ◌≡◌, ◌+◌, ◌-◌, List}
+use Rattle.std.specs.Prelude.{ℕ, ◌≡◌, ◌+◌, ◌-◌, Contains, List}
 use Rattle.irig_explaining.specs.declared.{asked.Asked.Asked, claim.Kind.Kind, rises.Rises.Rises}
 use Rattle.irig_explaining.specs.declared.nodes.Node.{Node}
 use Rattle.irig_explaining.specs.{Bounds.IsOver, Explanation.Price, Nodes.IsCost, Turned.turned}
@@ -25,3 +25,11 @@ pub record OtherKind (price place : Price) (a : Asked) (spent r e q f total : �
   pub kind : Kind
   pub unlike : place r e q f kind ≡ a.place → ⊥
   pub exact : total ≡ spent + price r e q f kind
+
+-- what one costs with a step from a node of a rise to a claim, after which all costs the rest
+pub record OtherFrom (price place : Price) (nodes : List Node) (a : Asked) (r rest q f total : ℕ)
+    : Type 0 where
+  pub node : Node
+  pub there : Contains nodes node
+  pub beside : node.rise ≡ r
+  pub other : OtherKind price place a (node.cost + rest) r node.element q f total

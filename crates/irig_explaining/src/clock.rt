@@ -6,7 +6,7 @@ ghost use Rattle.std.specs.Prelude.{◌^◌, ◌<◌, ◌≤◌, All};
 /// microsecond.
 #[derive(Drop)]
 pub struct Clock {
-    pub intervals: Vec<u64>,
+    pub intervals: Vec<u32>,
     /// No interval is longer.
     pub longest: u64,
     pub spread: u64,

@@ -1,6 +1,6 @@
 //! What steps cost, and the places that they give.
 
-ghost use Rattle.std.specs.Prelude.{ℕ, ◌≡◌, ◌+◌, ◌<◌, ◌≤◌, false};
+ghost use Rattle.std.specs.Prelude.{ℕ, ◌≡◌, ◌+◌, ◌<◌, ◌≤◌, false, true};
 ghost use Rattle.irig_explaining.specs.Reached.{IsReach, reaches};
 ghost use Rattle.irig_explaining.specs.declared.claim.Kind.{Kind};
 ghost use Rattle.irig_explaining.specs.declared.claim.Kind.TheVariants.{Jump};
@@ -102,4 +102,9 @@ pub trait Places {
     /// The place that a step from one claim to another gives.
     fn place(&self, from: Claim, to: Claim) -> u64
         ensures { result ≡ place self.now from.rise from.element to.rise to.element to.kind };
+
+    /// Whether no jump is known to give a place. Then steps from nodes and to nodes alone answer
+    /// what is sure of it.
+    fn no_jump_gives(&self, asked: u64) -> bool
+        ensures { result ≡ true → (r e q f : ℕ) → place self.now r e q f Jump ≡ asked → ⊥ };
 }

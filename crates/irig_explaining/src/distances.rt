@@ -27,7 +27,7 @@ impl<'a> Prices<'a> {
         ensures some { 0 < result }
         ensures short { result < 2 ^ 27 }
     {
-        self.clock.intervals[rise]
+        u64::from(self.clock.intervals[rise])
     }
 
     /// The distance of two rises, in parts of a microsecond.

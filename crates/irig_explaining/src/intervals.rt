@@ -75,7 +75,7 @@ pub(crate) fn intervals(
     distances: &[Distance],
     middles: &[u64],
     places: &[usize],
-) -> Result<Vec<u64>, AllocError>
+) -> Result<Vec<u32>, AllocError>
     requires some { 0 < nominal }
     requires nominal { nominal ≤ 2 ^ 25 }
     requires spread { spread < 2 ^ 32 }
@@ -86,7 +86,7 @@ pub(crate) fn intervals(
 {
     let mut intervals = Vec::new(alloc);
     for place in places {
-        intervals.push(interval_of(nominal, spread, distances, middles, *place))?;
+        intervals.push(interval_of(nominal, spread, distances, middles, *place) as u32)?;
     }
     Ok(intervals)
 }

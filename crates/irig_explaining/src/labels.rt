@@ -43,4 +43,9 @@ impl<'a> Places for Prices<'a> {
         let before = self.label(from.rise as usize, from.element as usize);
         before * size + self.label(to.rise as usize, to.element as usize)
     }
+
+    fn no_jump_gives(&self, asked: u64) -> bool {
+        let size = self.roles.len() as u64;
+        asked != size * size
+    }
 }

@@ -23,6 +23,7 @@ mod measure;
 mod median;
 mod missing;
 mod near;
+mod node_steps;
 mod nodes;
 mod opened;
 mod opening;

@@ -4,7 +4,7 @@ ghost use Rattle.std.specs.Prelude.{◌≡◌, ◌^◌, ◌<◌, ◌≤◌, Cont
 ghost use Rattle.std.specs.List.Sorted.{IsNonDecreasingBy};
 ghost use Rattle.irig_explaining.specs.declared.nodes.Node.{Node};
 
-use crate::near::nodes_near;
+use crate::near::of_rises_before;
 use crate::nodes::Node;
 use crate::rises::Rises;
 
@@ -25,10 +25,14 @@ fn lowest_of(nodes: &[Node], rise: usize, most: u64) -> u64
     ensures low { (n : Node) → Contains nodes.now n → n.rise ≡ rise → result ≤ n.cost }
     ensures kept { result ≤ most }
 {
-    let near = nodes_near(1, nodes, rise + 1);
+    let end = of_rises_before(nodes, rise + 1);
     let mut low = most;
-    for number in near.start..near.end {
-        low = low.min(nodes[number].cost);
+    for back in 0..end {
+        let node = nodes[end - 1 - back];
+        if (node.rise as usize) < rise {
+            return low;
+        }
+        low = low.min(node.cost);
     }
     low
 }

@@ -13,8 +13,8 @@ pub fn middles(alloc: Global, distances: &[u64], reach: usize) -> Result<Vec<u64
 {
     let mut middles = Vec::new(alloc);
     for place in 0..distances.len() {
-        let middle = middle(alloc, nearest(distances, reach, place))?;
-        middles.push(middle)?;
+        let around = Vec::from_slice(alloc, nearest(distances, reach, place))?;
+        middles.push(middle(around))?;
     }
     Ok(middles)
 }
@@ -30,22 +30,15 @@ pub(crate) fn nearest<T>(distances: &[T], reach: usize, place: usize) -> &[T]
     &distances[start..start + count]
 }
 
-/// The middle one of some numbers, 0 of none.
-pub(crate) fn middle_or_0(alloc: Global, numbers: &[u64]) -> Result<u64, AllocError>
-    ensures { IfOk result (λ middle. IsMiddle numbers.now middle) }
+/// The middle one of some numbers; of an even number the later one of both, and 0 of none.
+pub(crate) fn middle(numbers: Vec<u64>) -> u64
+    ensures { IsMiddle numbers.items result }
 {
-    if numbers.is_empty() {
-        return Ok(0);
+    let mut sorted = numbers;
+    sorted.sort_unstable();
+    let half = sorted.len() / 2;
+    if sorted.len() <= half {
+        return 0;
     }
-    middle(alloc, numbers)
-}
-
-/// The middle one of some distances; of an even number the later one of both.
-fn middle(alloc: Global, distances: &[u64]) -> Result<u64, AllocError>
-    requires { 0 < length distances.now }
-    ensures { IfOk result (λ middle. IsMiddle distances.now middle) }
-{
-    let mut sorted = Vec::from_slice(alloc, distances)?;
-    sorted.sort()?;
-    Ok(sorted[sorted.len() / 2])
+    sorted[half]
 }

@@ -27,7 +27,7 @@ pub fn nodes_near(window: usize, nodes: &[Node], rise: usize) -> Near
 }
 
 /// How many nodes are of rises before one.
-fn of_rises_before(nodes: &[Node], rise: usize) -> usize
+pub(crate) fn of_rises_before(nodes: &[Node], rise: usize) -> usize
     requires { IsNonDecreasingBy (λ n. n.rise) nodes.now }
     ensures { IsSplit nodes.now rise result }
 {

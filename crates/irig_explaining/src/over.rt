@@ -9,6 +9,7 @@ use crate::asked::Asked;
 use crate::bounds::with_step;
 use crate::claim::{Claim, Kind};
 use crate::costs::{Costs, Places};
+use crate::node_steps::with_steps_of_nodes;
 use crate::tables::Tables;
 
 impl<'a, C: Costs + Places> Tables<'a, C> {
@@ -51,17 +52,27 @@ impl<'a, C: Costs + Places> Tables<'a, C> {
             ⊎ OtherWay (C.price self.now.costs.now) (C.place self.now.costs.now)
             self.now.rises self.now.before.items self.now.after.items asked result }
     {
+        let rest = self.lowest_after(later);
         let first = later.saturating_sub(self.rises.window);
         let count = (asked.interval + 1).saturating_sub(first);
         let mut least = best;
         for back in 0..count {
-            least = self.with_steps_between(asked.interval - back, later, asked, least);
+            least = self.with_steps_between(asked.interval - back, later, rest, asked, least);
         }
         least
     }
 
-    /// The same for the steps between two rises.
-    fn with_steps_between(&self, rise: usize, later: usize, asked: Asked, best: u64) -> u64
+    /// The same for the steps between two rises. What comes after the second costs at least `rest`.
+    /// If no jump gives the asked place, steps between nodes are enough: no other one is cheaper
+    /// than a jump.
+    fn with_steps_between(
+        &self,
+        rise: usize,
+        later: usize,
+        rest: u64,
+        asked: Asked,
+        best: u64,
+    ) -> u64
         requires few { self.now.rises.count ≤ 2 ^ 30 }
         requires full { AreTables (C.price self.now.costs.now) self.now.rises
             self.now.before.items self.now.after.items }
@@ -69,6 +80,9 @@ impl<'a, C: Costs + Places> Tables<'a, C> {
         requires late { asked.interval < later }
         requires there { later < self.now.rises.count }
         requires near { later ≤ rise + self.now.rises.window }
+        requires rest { (n : Node) → Contains self.now.after.items n
+            → n.rise ≡ self.now.rises.count - 1 - later → rest ≤ n.cost }
+        requires little { rest < 2 ^ 62 }
         ensures kept { result ≤ best }
         ensures least { Elsewhere (C.price self.now.costs.now) (C.place self.now.costs.now)
             self.now.rises self.now.before.items self.now.after.items asked
@@ -78,11 +92,47 @@ impl<'a, C: Costs + Places> Tables<'a, C> {
             self.now.rises self.now.before.items self.now.after.items asked result }
     {
         let start = self.lowest_before(rise);
-        let low = start + self.lowest_after(later);
+        let low = start + rest;
         let step = self.costs.least(rise, later, best.saturating_sub(low));
         if best <= low + u64::from(step) {
             return best;
         }
+        if !self.costs.no_jump_gives(asked.place) {
+            return self.with_steps_of_claims(rise, later, start, asked, best);
+        }
+        let (before, after) = (self.before.as_slice(), self.after.as_slice());
+        with_steps_of_nodes(
+            self.costs, self.rises, before, after, rise, later, asked, best,
+        )
+    }
+
+    /// The same for all claims of both. No claim of the first rise costs less than `start`.
+    fn with_steps_of_claims(
+        &self,
+        rise: usize,
+        later: usize,
+        start: u64,
+        asked: Asked,
+        best: u64,
+    ) -> u64
+        requires few { self.now.rises.count ≤ 2 ^ 30 }
+        requires full { AreTables (C.price self.now.costs.now) self.now.rises
+            self.now.before.items self.now.after.items }
+        requires early { rise < asked.interval + 1 }
+        requires late { asked.interval < later }
+        requires there { later < self.now.rises.count }
+        requires near { later ≤ rise + self.now.rises.window }
+        requires start { (n : Node) → Contains self.now.before.items n → n.rise ≡ rise
+            → start ≤ n.cost }
+        requires little { start < 2 ^ 62 }
+        ensures kept { result ≤ best }
+        ensures least { Elsewhere (C.price self.now.costs.now) (C.place self.now.costs.now)
+            self.now.rises self.now.before.items self.now.after.items asked
+            (λ r e q f. (r ≡ rise) × (q ≡ later)) result }
+        ensures origin { (result ≡ best)
+            ⊎ OtherWay (C.price self.now.costs.now) (C.place self.now.costs.now)
+            self.now.rises self.now.before.items self.now.after.items asked result }
+    {
         let mut least = best;
         for element in 0..self.rises.states {
             let to = Claim {

@@ -4,7 +4,7 @@ ghost use Rattle.std.specs.Prelude.{◌≡◌, ◌++◌, ◌*◌, ◌^◌, ◌<�
 ghost use Rattle.irig_explaining.specs.Clocks.{IsSpread, IsWidthSpread, off_width, offs};
 ghost use Rattle.irig_explaining.specs.Looks.{IsTimely};
 
-use crate::median::middle_or_0;
+use crate::median::middle;
 use crate::pulse::Pulse;
 use crate::table::PART;
 use std::alloc::{AllocError, Global};
@@ -34,7 +34,7 @@ pub(crate) fn spread(
     ensures small { IfOk result (λ spread. spread < 2 ^ 32) }
 {
     let offs = offs(alloc, singles, middles)?;
-    let usual = middle_or_0(alloc, offs.as_slice())?;
+    let usual = middle(offs);
     let more = 3 * usual.min(nominal) / 2;
     Ok(more.max(nominal / 250).max(PART))
 }
@@ -72,7 +72,7 @@ pub(crate) fn width_spread(alloc: Global, nominal: u64, pulses: &[Pulse]) -> Res
     ensures small { IfOk result (λ spread. spread < 2 ^ 32) }
 {
     let offs = off_widths(alloc, nominal, pulses)?;
-    let usual = middle_or_0(alloc, offs.as_slice())?;
+    let usual = middle(offs);
     let more = 3 * usual.min(nominal) / 2;
     Ok(more.max(nominal / 64))
 }

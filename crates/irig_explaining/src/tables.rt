@@ -75,8 +75,9 @@ impl<'a, C: Costs + Places> Tables<'a, C> {
         ensures exact { IsOther (C.price self.now.costs.now) (C.place self.now.costs.now)
             self.now.rises asked result }
     {
+        let none = self.rises.skipped(self.rises.count);
+        let best = self.with_steps(asked, none);
         let (before, after) = (self.before.as_slice(), self.after.as_slice());
-        let best = without_step(self.rises, before, after, asked);
-        self.with_steps(asked, best)
+        without_step(self.rises, before, after, asked, best)
     }
 }

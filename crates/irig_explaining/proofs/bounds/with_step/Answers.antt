@@ -31,3 +31,8 @@ returns-clause-origin g c =
       | inl e ↦ subst P (sym e) step
       | inr h ↦ inr (record { kind = Jump; unlike = h.0; exact = h.1 })
     ]
+
+pub returns-then-best-spent-clause-least : goal.returns-then-best-spent-clause-least
+returns-then-best-spent-clause-least g c = record {
+  least = λ k unlike. omega (arith, c.if-best-spent.true, c.least-least.ensures c.args.from.element c.args.to.element k);
+}

@@ -10,15 +10,15 @@ any_default xs i d e lt = get_or_from_slice_get xs i (get_or xs i e) d (slice_ge
 
 pub returns : goal.returns
 returns c =
-    let xs = c.args.distances.now in let ys = c.sort.new.self.items in let x = c.index.result.now in
-    let same : IsPermutation xs ys = rw c.in_ok-sorted.ensures.items at c.in_ok-sort.ensures.permutation in
+    let xs = c.args.numbers.items in let ys = c.sort_unstable.new.self.items in let x = c.index.result.now in
+    let same : IsPermutation xs ys = c.sort_unstable.ensures.permutation in
     let all : length ys ≡ length xs = length_permutation xs ys same in
-    let half : c.len.result ≡ length xs = omega (arith, c.len.ensures, c.in_ok-sort.ensures.len, c.in_ok-sorted.ensures.len) in
-    let lt : length xs / 2 < length ys = let some = c.requires in omega arith in
+    let half : c.len-half.result ≡ length xs = omega (arith, c.len-half.ensures, all) in
+    let lt : length xs / 2 < length ys = omega (arith, c.if-len-half.false, c.len-half.ensures, c.len.ensures, all) in
     let at : x ≡ get_or ys (length xs / 2) x = subst (λ n. x ≡ get_or ys (n / 2) x) half c.index.ensures in
     record {
       sorted = ys;
       same = same;
-      rising = IsNonDecreasingBy-from_sort (λ n. n) ys c.in_ok-sort.ensures.sorted;
+      rising = IsNonDecreasingBy-from_sort (λ n. n) ys c.sort_unstable.ensures.sorted;
       middle = any_default ys (length xs / 2) 0 x lt ∙ sym at;
     }

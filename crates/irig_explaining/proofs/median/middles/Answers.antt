@@ -6,8 +6,8 @@ use Rattle.irig_explaining.proofs.median.middles.Goals as goal
 pub loop-place-preserved : goal.loop-place-preserved
 loop-place-preserved c =
     let xs = c.args.distances.now in let reach = c.args.reach in let i = c.loop-place.place in
-    let ms = c.loop-place.middles.items in let m = c.in_ok-middle.middle in let so_far = c.loop-place.invariant in
-    let here : IsMiddle (around reach xs i) m = rw c.nearest.ensures.exact at c.in_ok-middle.ensures in
+    let ms = c.loop-place.middles.items in let m = c.middle.result in let so_far = c.loop-place.invariant in
+    let here : IsMiddle (around reach xs i) m = rw (c.in_ok-around.ensures.items, c.nearest.ensures.exact) at c.middle.ensures in
     let P : ℕ → Type 0 = λ v. IsMiddle (around reach xs v) (get_or (ms ++ m ∷ []) v 0) in
     rw c.in_ok-push.ensures.items (record {
       all = omega (arith, so_far.all, length-append ms (m ∷ []));

@@ -23,7 +23,10 @@ loop-element-preserved g c =
       least = elsewhere_more price place rises before after c.args.asked (λ r e q f. (r ≡ t) × (e < i) × (q ≡ q2) × (f ≡ f2))
           (λ r e q f. (r ≡ t) × (e ≡ i) × (q ≡ q2) × (f ≡ f2)) (λ r e q f. (r ≡ t) × (e < i + 1) × (q ≡ q2) × (f ≡ f2))
           c.loop-element.least _ c.loop-element.invariant.least more.kept more.least
-          (λ r e q f over low. let lt = low.1 in elim (cases_lt e i) [ inl less ↦ inl (low.0, less, low.2, low.3) | inr le ↦ inr (low.0, omega arith, low.2, low.3) ]);
+          (λ r e q f over low. let lt = low.1 in elim (cases_lt e i) [
+            | inl less ↦ inl (low.0, less, low.2, low.3)
+            | inr le ↦ inr (low.0, omega arith, low.2, low.3)
+          ]);
       origin = elim more.origin [ inl same ↦ subst Q (sym same) c.loop-element.invariant.origin | inr h ↦ inr h ];
     }
 

@@ -1,6 +1,6 @@
 use Rattle.std.proofs.Common.{◌≡◌, ◌⊎◌, ◌<◌, ◌≤◌}
 use Rattle.irig_explaining.specs.{Bounds.Elsewhere, Ways.OtherWay}
-use Rattle.irig_explaining.proofs.tables.Tables.with_steps_between.Given as goal
+use Rattle.irig_explaining.proofs.tables.Tables.with_steps_of_claims.Given as goal
 
 -- the least of those to the elements so far
 abbrev pub invariant-loop-element : goal.invariant-loop-element
