@@ -6,6 +6,7 @@ from __future__ import annotations
 
 import heapq
 from bisect import bisect_right
+from math import isqrt
 from typing import Dict, FrozenSet, Iterator, List, NamedTuple, Optional, Sequence, Set, Tuple
 
 from reference import timecode
@@ -58,7 +59,8 @@ class Code:
     def inserts(self, base: int, other: int, time: int) -> bool:
         """Whether a second 60 begins or ends with a time, if the frames before it are of one base, and those from it on of another."""
         begins = other == self.inserted + (base - self.second) % self.year and time % self.minute == self.minute - self.second
-        return begins or base == self.inserted + other and time % self.minute == 0
+        after = (0, self.day) if time % self.year == 0 else (0,)  # day 365 can be the last one
+        return begins or base >= self.inserted and (other - base + self.inserted) % self.year in after and time % self.minute == 0
 
     def ones(self, time: int) -> FrozenSet[int]:
         """The elements of the frame's time that are one."""
@@ -181,12 +183,9 @@ class Times:
         self.bends: Dict[int, Optional[int]] = {}
 
     def _tolerance(self, one: int, other: int, count: int) -> int:
+        """Twice the spread of that many elements, from a twentieth of an interval to a quarter."""
         interval = self.prices.interval(one, other)
-        square = self.prices.clock.spread_of(count)
-        wide = interval // 4
-        while wide > interval // OFF and wide * wide > square:  # twice the spread of that many elements
-            wide -= interval // OFF
-        return max(wide, interval // OFF)
+        return max(interval // OFF, min(interval // 4, isqrt(self.prices.clock.spread_of(count))))
 
     def _agrees(self, one: Known, other: Known) -> bool:
         """Whether two rises are as far apart as their elements."""

@@ -1,0 +1,5 @@
+pub mod LeastWays
+pub mod Growing
+pub mod Reading
+pub mod Both
+pub mod Others

@@ -1,0 +1,32 @@
+-- Choices of a candidate for each frame, and what they cost. This project's own.
+use Rattle.std.specs.Prelude.{ℕ, ◌≡◌, ◌+◌, ◌≤◌, List, [], ◌∷◌, length, Option, Some, None}
+
+-- the last candidate of each frame (from 0), what a candidate of a frame costs, and what it costs
+-- that a frame has one after one of the frame before
+pub record Prices : Type 0 where
+  pub last : ℕ → ℕ
+  pub pay : ℕ → ℕ → ℕ
+  pub join : ℕ → ℕ → ℕ → ℕ
+
+-- candidates of frames next to each other, from one on
+abbrev pub AreChosen : Prices → ℕ → List ℕ → Type 0
+AreChosen p t [] = Unit {0}
+AreChosen p t (c ∷ cs) = (c ≤ p.last t) × AreChosen p (t + 1) cs
+
+-- one candidate of each frame
+abbrev pub IsChoice : Prices → ℕ → List ℕ → Type 0
+IsChoice p frames cs = (length cs ≡ frames) × AreChosen p 0 cs
+
+-- what a candidate of a frame costs, after that of the frame before, if there is one
+abbrev pub step : Prices → ℕ → Option ℕ → ℕ → ℕ
+step p t None d = p.pay t d
+step p t (Some c) d = p.join t c d + p.pay t d
+
+-- what candidates from a frame on cost, after that of the frame before
+abbrev pub cost_from : Prices → ℕ → Option ℕ → List ℕ → ℕ
+cost_from p t before [] = 0
+cost_from p t before (d ∷ ds) = step p t before d + cost_from p (t + 1) (Some d) ds
+
+-- what a choice costs
+abbrev pub cost : Prices → List ℕ → ℕ
+cost p cs = cost_from p 0 None cs

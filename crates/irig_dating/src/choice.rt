@@ -1,0 +1,43 @@
+//! The cheapest choice of candidates.
+
+ghost use Rattle.std.specs.Prelude.{ℕ, ◌≡◌, ◌^◌, ◌≤◌, IfOk, List, length};
+ghost use Rattle.irig_dating.specs.{Choices.IsChoice, Choices.cost, Rows.AreRows};
+
+use crate::costs::Costs;
+use crate::rows::rest;
+use crate::ways::cheapest_way;
+use std::alloc::{AllocError, Global};
+
+/// A candidate for each frame, and what they cost.
+#[derive(Drop)]
+pub struct Choice {
+    pub candidates: Vec<usize>,
+    pub cost: u64,
+}
+
+pub fn cheapest<C: Costs>(
+    alloc: Global,
+    costs: &C,
+    frames: usize,
+    rows: &[Vec<u64>],
+) -> Result<Choice, AllocError>
+    requires few { frames ≤ 2 ^ 30 }
+    requires all { length rows.now ≡ frames }
+    requires rows { AreRows (C.prices costs.now) frames rows.now }
+    ensures possible { IfOk result (λ x. IsChoice (C.prices costs.now) frames x.candidates.items) }
+    ensures exact { IfOk result (λ x. cost (C.prices costs.now) x.candidates.items ≡ x.cost) }
+    ensures least { IfOk result (λ x. (others : List ℕ)
+        → IsChoice (C.prices costs.now) frames others
+        → x.cost ≤ cost (C.prices costs.now) others) }
+{
+    let cost = rest(costs, frames, 0, None, rows);
+    let mut candidates = Vec::new(alloc);
+    let mut before = None;
+    for frame in 0..frames {
+        let row = rows[frames - 1 - frame].as_slice();
+        let way = cheapest_way(costs, frames, frame, before, row);
+        candidates.push(way.to)?;
+        before = Some(way.to);
+    }
+    Ok(Choice { candidates, cost })
+}
