@@ -84,8 +84,3 @@ pub is_read_whole : (known wire : Option (List ℕ)) (read : Result (RecordingVi
     → IsReadOf known wire read
 is_read_whole known wire read r =
     record { source = r.source; whole = r.whole; most = r.most; parts = subst (Gives parts_of read) (no_window_parts wire r.source) r.parts; few = r.few }
-
-pub whole_is_read : (known wire : Option (List ℕ)) (read : Result (RecordingView × Option (Vec ℕ)) VcdFault) → IsReadOf known wire read
-    → IsReadIn None known wire read
-whole_is_read known wire read r =
-    record { source = r.source; whole = r.whole; most = r.most; parts = subst (Gives parts_of read) (sym (no_window_parts wire r.source)) r.parts; few = r.few }

@@ -10,7 +10,7 @@ ghost use Rattle.irig_files.specs.declared.dump_file.DumpFileFault.{DumpFileFaul
 ghost use Rattle.irig_files.specs.{Apart.AreApart, Apart.LeadToOneFile, Taken.HasFile, Taken.StaysBarred};
 
 use crate::dump_file::DumpFileFault;
-use crate::intake::{LongParts, Parts};
+use crate::intake::{LongParts, Parts, shorter};
 use crate::room::Room;
 use crate::written::Written;
 use irig_text::{ShelfFault, Text};
@@ -37,19 +37,8 @@ pub trait Disk {
     /// A file is not replaced: it must not be written.
     ghost is_barred: { Self → ℕ → Type 0 };
 
-    /// Reads the dump in the file at a path; of more than 2^28 bytes at most one more is read.
-    fn read(
-        &self,
-        alloc: Global,
-        path: &str,
-        wire: Option<&[u8]>,
-    ) -> Result<Result<Parts, VcdFault>, DumpFileFault>
-        ensures read { IfOk result (IsReadOf (held self.now path.now) (name_of wire.entry)) }
-        ensures long { IsErrOf result DumpFileFault.TooLong
-            → IfSome (held self.now path.now) (λ all. 2 ^ 28 < length all) }
-        ensures unread { IfErr result (unread self.now path.now) };
-
-    /// The same, of as much of the dump as `extent` says.
+    /// Reads the dump in the file at a path, as much of it as `extent` says. Of a file that is too
+    /// long at most one byte more is read.
     fn read_extent(
         &self,
         alloc: Global,
@@ -62,6 +51,24 @@ pub trait Disk {
         ensures long { IsErrOf result DumpFileFault.TooLong
             → IfSome (held self.now path.now) (λ all. extent_bytes extent < length all) }
         ensures unread { IfErr result (unread self.now path.now) };
+
+    /// The same of the whole dump, with up to 2^22 pulses.
+    fn read(
+        &self,
+        alloc: Global,
+        path: &str,
+        wire: Option<&[u8]>,
+    ) -> Result<Result<Parts, VcdFault>, DumpFileFault>
+        ensures read { IfOk result (IsReadOf (held self.now path.now) (name_of wire.entry)) }
+        ensures long { IsErrOf result DumpFileFault.TooLong
+            → IfSome (held self.now path.now) (λ all. 2 ^ 28 < length all) }
+        ensures unread { IfErr result (unread self.now path.now) }
+    {
+        match self.read_extent(alloc, path, wire, Extent::short(None)) {
+            Ok(read) => Ok(shorter(read)),
+            Err(fault) => Err(fault),
+        }
+    }
 
     /// Writes a text to what a path leads to: a regular file, or none yet, is replaced whole;
     /// anything else, and what the program's answers go to, is written in place. After a fault

@@ -1,15 +1,15 @@
 //! Reads the dump in a file, in parts.
 
-ghost use Rattle.std.specs.Prelude.{◌≡◌, ◌≢◌, ◌<◌, ◌^◌, ◌↔◌, ℕ, List, Some, None, IfOk, OnOk};
+ghost use Rattle.std.specs.Prelude.{◌≡◌, ◌≢◌, ◌<◌, ◌↔◌, ℕ, List, Some, None, IfOk, OnOk};
 ghost use Rattle.std.specs.Prelude.{IfErr, IfSome, IsErrOf, IsOk, IsTrue, MatchResult, true, false};
 ghost use Rattle.std.specs.Prelude.{length};
 ghost use Rattle.std.specs.Io.KnownBytes.{Consumes, IsAtEnd};
 ghost use Rattle.std.specs.{IoError.error_kind, Fs.IsFile, Fs.file_type, Fs.metadata_len};
 ghost use Rattle.irig_vcd.specs.Answer.{name_of};
-ghost use Rattle.irig_files.specs.Reads.{IsCounted, IsReadBy, IsReadOf, Takes, extent_bytes};
+ghost use Rattle.irig_files.specs.Reads.{IsCounted, IsReadBy, Takes, extent_bytes};
 ghost use Rattle.irig_files.specs.declared.dump_file.DumpFileFault.TheVariants.{TooLong};
 
-use crate::intake::{DUMP_LIMIT, Intake, LongParts, Parts, shorter};
+use crate::intake::{Intake, LongParts, most_bytes};
 use irig_vcd::{Extent, VcdFault};
 use std::alloc::Global;
 use std::fs::{Metadata, OpenFile};
@@ -47,22 +47,22 @@ impl From<io::Error> for DumpFileFault {
 
 /// Whether a file shows by its size that it is too long; if the system does not say, its bytes are
 /// counted.
-fn is_too_long(described: io::Result<Metadata>) -> bool
+fn is_too_long(described: io::Result<Metadata>, most: usize) -> bool
     ensures { MatchResult described (λ d. IsTrue result
-        ↔ (IsFile (file_type d) × (2 ^ 28 < metadata_len d))) (λ _. result ≡ false) }
+        ↔ (IsFile (file_type d) × (most < metadata_len d))) (λ _. result ≡ false) }
 {
     match described {
-        Ok(described) => shows_more(&described),
+        Ok(described) => shows_more(&described, most),
         Err(_) => false,
     }
 }
 
 /// Only a regular file has a size; a pipe shows none.
-fn shows_more(described: &Metadata) -> bool
+fn shows_more(described: &Metadata, most: usize) -> bool
     ensures { IsTrue result
-        ↔ (IsFile (file_type described.now) × (2 ^ 28 < metadata_len described.now)) }
+        ↔ (IsFile (file_type described.now) × (most < metadata_len described.now)) }
 {
-    described.is_file() && described.len() > DUMP_LIMIT as u64
+    described.is_file() && described.len() > most as u64
 }
 
 /// What `take_part` answers after an error: after an interruption the next read can give more.
@@ -132,23 +132,6 @@ fn take_all<R: Read>(
     Err(DumpFileFault::CannotBeRead)
 }
 
-/// Reads all of a dump, of at most 2^28 bytes and 2^22 pulses.
-pub fn read_whole<R: Read + Drop>(
-    alloc: Global,
-    mut reader: R,
-    wire: Option<&[u8]>,
-) -> Result<Result<Parts, VcdFault>, DumpFileFault>
-    ensures read { IfOk result (IsReadOf (R.remaining reader) (name_of wire.entry)) }
-    ensures long { IsErrOf result DumpFileFault.TooLong
-        → IfSome (R.remaining reader) (λ all. 2 ^ 28 < length all) }
-{
-    let mut part = [0; PART];
-    match read_by_parts(alloc, &mut reader, &mut part, wire, Extent::short(None)) {
-        Ok(read) => Ok(shorter(read)),
-        Err(fault) => Err(fault),
-    }
-}
-
 /// Reads a dump, and keeps as much of it as `extent` says.
 pub fn read_extent<R: Read + Drop>(
     alloc: Global,
@@ -196,36 +179,24 @@ pub fn read_dump<R: Files>(
     alloc: Global,
     path: &str,
     wire: Option<&[u8]>,
-) -> Result<Result<Parts, VcdFault>, DumpFileFault>
-    ensures { IfOk result (IsReadOf None (name_of wire.entry)) }
+    extent: Extent,
+) -> Result<Result<LongParts, VcdFault>, DumpFileFault>
+    ensures { IfOk result (IsReadBy extent None (name_of wire.entry)) }
 {
     let file = fs::open(rt, path)?;
-    read_open(alloc, file, wire)
+    read_open(alloc, file, wire, extent)
 }
 
 fn read_open<F: OpenFile + Read + Drop>(
     alloc: Global,
     file: F,
     wire: Option<&[u8]>,
-) -> Result<Result<Parts, VcdFault>, DumpFileFault>
-    ensures { IfOk result (IsReadOf (F.remaining file) (name_of wire.entry)) }
-{
-    if is_too_long(file.metadata()) {
-        return Err(DumpFileFault::TooLong);
-    }
-    read_whole(alloc, file, wire)
-}
-
-/// Reads the dump in the file at a path. Its size is not looked at: the bytes are counted.
-pub fn read_dump_extent<R: Files>(
-    rt: &R,
-    alloc: Global,
-    path: &str,
-    wire: Option<&[u8]>,
     extent: Extent,
 ) -> Result<Result<LongParts, VcdFault>, DumpFileFault>
-    ensures { IfOk result (IsReadBy extent None (name_of wire.entry)) }
+    ensures { IfOk result (IsReadBy extent (F.remaining file) (name_of wire.entry)) }
 {
-    let file = fs::open(rt, path)?;
+    if is_too_long(file.metadata(), most_bytes(extent)) {
+        return Err(DumpFileFault::TooLong);
+    }
     read_extent(alloc, file, wire, extent)
 }

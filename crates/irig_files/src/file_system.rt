@@ -1,17 +1,17 @@
 //! Single calls on paths.
 
-ghost use Rattle.std.specs.Prelude.{◌≡◌, ◌≢◌, ◌<◌, ◌^◌, ℕ, List, Option, None, Some, IfErr, IfOk};
+ghost use Rattle.std.specs.Prelude.{◌≡◌, ◌≢◌, ◌<◌, ℕ, List, Option, None, Some, IfErr, IfOk};
 ghost use Rattle.std.specs.Prelude.{IfSome, IsErrOf, IsTrue, MatchOption, OnOk, codes, false, length};
 ghost use Rattle.std.specs.Prelude.{option_map, true, ⊤};
 ghost use Rattle.std.specs.Path.{path_buf_bytes};
 ghost use Rattle.irig_vcd.specs.Answer.{name_of};
 ghost use Rattle.irig_files.specs.declared.dump_file.DumpFileFault.{DumpFileFault};
 ghost use Rattle.irig_files.specs.{Apart.HasId, Paths.IsFolderOf, Paths.followed};
-ghost use Rattle.irig_files.specs.Reads.{IsReadBy, IsReadOf, extent_bytes};
+ghost use Rattle.irig_files.specs.Reads.{IsReadBy, extent_bytes};
 
 use crate::described::Described;
 use crate::dump_file::DumpFileFault;
-use crate::intake::{LongParts, Parts};
+use crate::intake::LongParts;
 use crate::plain_calls::PlainCalls;
 use irig_vcd::{Extent, VcdFault};
 use std::alloc::Global;
@@ -33,18 +33,6 @@ pub trait FileSystem: PlainCalls {
     ghost held: { Self → List ℕ → Option (List ℕ) };
 
     ghost unread: { Self → List ℕ → DumpFileFault → Type 0 };
-
-    /// As `read` of a `Disk`.
-    fn read(
-        &self,
-        alloc: Global,
-        path: &str,
-        wire: Option<&[u8]>,
-    ) -> Result<Result<Parts, VcdFault>, DumpFileFault>
-        ensures read { IfOk result (IsReadOf (held self.now path.now) (name_of wire.entry)) }
-        ensures long { IsErrOf result DumpFileFault.TooLong
-            → IfSome (held self.now path.now) (λ all. 2 ^ 28 < length all) }
-        ensures unread { IfErr result (unread self.now path.now) };
 
     /// As `read_extent` of a `Disk`.
     fn read_extent(

@@ -6,7 +6,7 @@ ghost use Rattle.irig_files.specs.Taken.{IsLocked};
 use crate::disk::Disk;
 use crate::dump_file::DumpFileFault;
 use crate::file_system::FileSystem;
-use crate::intake::{LongParts, Parts};
+use crate::intake::LongParts;
 use crate::put_file::put_file;
 use crate::room::Room;
 use crate::same_file::is_same_file;
@@ -53,15 +53,6 @@ impl<C: FileSystem> Disk for Files<C> {
     ghost counts_now = { λ f. C.counts_now f.system };
 
     ghost only_now = { λ f. C.only_now f.system };
-
-    fn read(
-        &self,
-        alloc: Global,
-        path: &str,
-        wire: Option<&[u8]>,
-    ) -> Result<Result<Parts, VcdFault>, DumpFileFault> {
-        self.system.read(alloc, path, wire)
-    }
 
     fn read_extent(
         &self,

@@ -22,12 +22,12 @@ pub type Parts = (Recording, Option<Vec<u8>>);
 pub type LongParts = (LongRecording, Option<Vec<u8>>);
 
 /// Bytes of a dump, at most: 2^28, this project's own bound.
-pub const DUMP_LIMIT: usize = 268_435_456;
+const DUMP_LIMIT: usize = 268_435_456;
 
 /// The same for a window or a long recording: no file has more, and all counts of bytes stay exact.
 const LONG_LIMIT: usize = 1 << 47;
 
-fn most_bytes(extent: Extent) -> usize
+pub fn most_bytes(extent: Extent) -> usize
     ensures { result ≡ extent_bytes extent }
 {
     if extent.is_long || extent.window.is_some() {

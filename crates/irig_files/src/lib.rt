@@ -23,11 +23,11 @@ mod written;
 
 pub use described::Described;
 pub use disk::Disk;
-pub use dump_file::{DumpFileFault, read_extent, read_whole};
+pub use dump_file::{DumpFileFault, read_extent};
 pub use file_shelf::FileShelf;
 pub use file_system::FileSystem;
 pub use files::Files;
-pub use intake::{LongParts, Parts, shorter};
+pub use intake::{LongParts, Parts};
 pub use opening::system_files;
 pub use plain_calls::PlainCalls;
 pub use put_file::folder_of;

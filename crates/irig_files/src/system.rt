@@ -8,9 +8,9 @@ ghost use Rattle.std.specs.{IoError.error_kind};
 ghost use Rattle.std.proofs.Common.{ap};
 
 use crate::described::Described;
-use crate::dump_file::{DumpFileFault, read_dump, read_dump_extent};
+use crate::dump_file::{DumpFileFault, read_dump};
 use crate::file_system::FileSystem;
-use crate::intake::{LongParts, Parts};
+use crate::intake::LongParts;
 use crate::plain_calls::PlainCalls;
 use irig_disk::{SystemDir, SystemFault, SystemFolder};
 use irig_vcd::{Extent, VcdFault};
@@ -80,15 +80,6 @@ impl<R: Files + Print + AllocGlobal> FileSystem for SystemFolder<'_, R> {
 
     ghost ids_differ = { λ _ one other same. ap (λ id. id.1) same };
 
-    fn read(
-        &self,
-        alloc: Global,
-        path: &str,
-        wire: Option<&[u8]>,
-    ) -> Result<Result<Parts, VcdFault>, DumpFileFault> {
-        read_dump(self.runtime(), alloc, path, wire)
-    }
-
     fn read_extent(
         &self,
         alloc: Global,
@@ -96,7 +87,7 @@ impl<R: Files + Print + AllocGlobal> FileSystem for SystemFolder<'_, R> {
         wire: Option<&[u8]>,
         extent: Extent,
     ) -> Result<Result<LongParts, VcdFault>, DumpFileFault> {
-        read_dump_extent(self.runtime(), alloc, path, wire, extent)
+        read_dump(self.runtime(), alloc, path, wire, extent)
     }
 
     fn describe(&self, path: &str) -> Result<Option<Described>, SystemFault> {

@@ -62,7 +62,7 @@ pub fn read_long_track<D: Disk>(
 }
 
 /// What the dump at a path says of a wire, if need be in a window; a journal is that of the whole
-/// dump. With a window `Extent` keeps no more than 2^22 pulses, so `shorter` can be called.
+/// dump.
 pub fn read_in_window<D: Disk>(
     alloc: Global,
     disk: &D,
@@ -75,12 +75,9 @@ pub fn read_in_window<D: Disk>(
     ensures unread { IfErr result
         (IsUnread window (D.held disk.now path.now) (D.unread disk.now path.now)) }
 {
-    match window {
-        None => disk.read(alloc, path, bytes_of(wire)),
-        Some(_) => match disk.read_extent(alloc, path, bytes_of(wire), Extent::short(window)) {
-            Ok(read) => Ok(shorter(read)),
-            Err(fault) => Err(fault),
-        },
+    match disk.read_extent(alloc, path, bytes_of(wire), Extent::short(window)) {
+        Ok(read) => Ok(shorter(read)),
+        Err(fault) => Err(fault),
     }
 }
 

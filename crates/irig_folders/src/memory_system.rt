@@ -12,9 +12,7 @@ use crate::memory_fault::MemoryFault;
 use crate::names::file_at;
 use crate::seen_file::SeenFile;
 use irig_disk::is_name;
-use irig_files::{
-    Described, DumpFileFault, FileSystem, LongParts, Parts, PlainCalls, read_extent, read_whole,
-};
+use irig_files::{Described, DumpFileFault, FileSystem, LongParts, PlainCalls, read_extent};
 use irig_vcd::{Extent, VcdFault};
 use std::alloc::Global;
 use std::io;
@@ -91,23 +89,8 @@ impl FileSystem for Memory {
 
     ghost ids_differ = { λ _ one other same. ap (λ id. id.1) same };
 
-    // The error is `CannotBeRead` if no file is at the path; `bytes_of` fails for memory alone.
-    fn read(
-        &self,
-        alloc: Global,
-        path: &str,
-        wire: Option<&[u8]>,
-    ) -> Result<Result<Parts, VcdFault>, DumpFileFault> {
-        let Some(file) = file_at(self.calls(), path.as_bytes()) else {
-            return Err(DumpFileFault::CannotBeRead);
-        };
-        let Ok(bytes) = bytes_of(alloc, self.calls(), file) else {
-            return Err(DumpFileFault::OutOfMemory);
-        };
-        read_whole(alloc, bytes.as_slice(), wire)
-    }
-
-    // The errors are those of `read`, with `TooLong` from the function of the same name.
+    // The error is `CannotBeRead` if no file is at the path; `bytes_of` fails for memory alone, and
+    // `TooLong` is from the function of the same name.
     fn read_extent(
         &self,
         alloc: Global,

@@ -17,9 +17,7 @@ use crate::seen_file::SeenFile;
 use crate::tree::{Plain, Tree, TreeDir};
 use crate::tree_paths::{end_at, find, link_text, path_of};
 use crate::tree_reads::{bytes_at, read_of};
-use irig_files::{
-    Described, DumpFileFault, FileSystem, LongParts, Parts, PlainCalls, read_extent, read_whole,
-};
+use irig_files::{Described, DumpFileFault, FileSystem, LongParts, PlainCalls, read_extent};
 use irig_vcd::{Extent, VcdFault};
 use std::alloc::Global;
 use std::io::{self, Write};
@@ -162,16 +160,6 @@ impl FileSystem for Tree {
     ghost ids_differ = { λ _ one other same. ap (λ id. id.1) same };
 
     // `read_of` hands the answer on: its contract is needed here.
-    fn read(
-        &self,
-        alloc: Global,
-        path: &str,
-        wire: Option<&[u8]>,
-    ) -> Result<Result<Parts, VcdFault>, DumpFileFault> {
-        let bytes = bytes_at(self, alloc, path)?;
-        read_of(read_whole(alloc, bytes.as_slice(), wire))
-    }
-
     fn read_extent(
         &self,
         alloc: Global,

@@ -131,6 +131,10 @@ impl Places for Looks {
         let (rise, element) = (to.rise as usize, to.element as usize);
         ((element % ELEMENTS + ELEMENTS - rise % ELEMENTS) % ELEMENTS) as u64
     }
+
+    fn no_jump_gives(&self, _asked: u64) -> bool {
+        false
+    }
 }
 
 /// Rise 3 is noise, and between rises 6 and 7 the element number jumps.

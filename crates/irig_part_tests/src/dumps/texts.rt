@@ -1,7 +1,5 @@
-//! What is written of recordings, and that it is read back.
+//! What is written of recordings.
 
-use super::Wanted::Edges;
-use super::is_right;
 use crate::edges::most_edges;
 use irig_recording::{Recording, text};
 use irig_vcd::{VcdFault, read};
@@ -54,19 +52,6 @@ fn lines_are_written(rt: HostRuntime) {
     for (length, edges, from, text) in TEXTS.iter() {
         assert!(rt; is_text(rt.alloc(), *length, edges, *from, text));
     }
-}
-
-fn is_read_back(alloc: Global, length: u64, edges: &'static [u64]) -> bool {
-    match lines_of(alloc, length, edges) {
-        Ok(lines) => is_right(alloc, lines.as_slice(), None, &Edges(length, edges)),
-        Err(_) => false,
-    }
-}
-
-// A rise at 0 and a fall at the length.
-#[test]
-fn what_is_written_is_read(rt: HostRuntime) {
-    assert!(rt; is_read_back(rt.alloc(), 70, &[0, 5, 9, 70]));
 }
 
 /// The dump of 2^22 pulses, of 1 microsecond each and 1 apart, with the length 8,388,608.

@@ -174,15 +174,3 @@ pub(crate) fn holds(index: &Index, records: &[Record]) -> bool {
     }
     true
 }
-
-pub(crate) fn same(one: &Index, other: &Index) -> bool {
-    if one.len() != other.len() {
-        return false;
-    }
-    for k in 0..one.len() {
-        if one.record(k) != other.record(k) {
-            return false;
-        }
-    }
-    true
-}

@@ -75,9 +75,10 @@ fn obey_byte<W: Write, N: Witness, S: Shelf>(
     let Some(reply) = obey_line(line, session, shelf) else {
         return Ok(true);
     };
-    let Ok(()) = answer(reply, session, shelf, screen, status) else {
-        return Err(PrintFault);
-    };
+    match answer(reply, session, shelf, screen, status) {
+        Ok(()) => {}
+        Err(fault) => return Err(fault),
+    }
     line.clear();
     Ok(false)
 }

@@ -21,9 +21,10 @@ pub fn print_frames<W: Write>(session: &Session, out: &mut W) -> Result<(), Prin
     let mut row = Row::new();
     for index in 0..session.frames() {
         put_record(&mut row, session, index + 1);
-        let Ok(()) = block.put(out, row.text()) else {
-            return Err(PrintFault);
-        };
+        match block.put(out, row.text()) {
+            Ok(()) => {}
+            Err(fault) => return Err(fault),
+        }
     }
     block.flush(out)
 }

@@ -20,9 +20,10 @@ pub fn print_marks<W: Write>(session: &Session, out: &mut W) -> Result<(), Print
     for place in 0..26 {
         let letter = Letter::new(place);
         put_mark(&mut row, letter, session.mark_time(letter.byte()));
-        let Ok(()) = block.put(out, row.text()) else {
-            return Err(PrintFault);
-        };
+        match block.put(out, row.text()) {
+            Ok(()) => {}
+            Err(fault) => return Err(fault),
+        }
     }
     block.flush(out)
 }

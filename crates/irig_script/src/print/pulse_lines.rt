@@ -67,9 +67,10 @@ fn print_in_blocks<W: Write>(
     while done < there {
         let lines = (there - done).min(block.len() / LINE_ROOM);
         let start = write_pulses(block, session, before + done + lines, lines);
-        let Ok(()) = put_all(out, &block[start..]) else {
-            return Err(PrintFault);
-        };
+        match put_all(out, &block[start..]) {
+            Ok(()) => {}
+            Err(fault) => return Err(fault),
+        }
         done += lines;
     }
     Ok(())

@@ -13,14 +13,14 @@ returns-in_default-clause-ok g c = λ text h.
     rw c.if-byte-ne10.false (obeyed_end c.args.screen.now (g.S.Shelf.known c.args.shelf.now)
     (g.S.Shelf.known c.obey_line.new.shelf) c.args.status.now text _ _ _ h.plain (a.0 text h) a.1 a.2)
 
-pub returns-in_default-answer-clause-err : goal.returns-in_default-answer-clause-err
-returns-in_default-answer-clause-err g c = λ text h.
+pub returns-in-Err-clause-err : goal.returns-in-Err-clause-err
+returns-in-Err-clause-err g c = λ text h.
     let texts = c.in-Some.ensures.answers.0 in
     let a = c.in-Some.ensures.answers.1 text h in
-    let front = c.in_default-answer.ensures.text in
+    let front = c.in-Err.ensures.text in
     rw c.if-byte-ne10.false (broke_line _ _ text _ _ front.front front.back (answer_with c.obey_line.new.session c.in-Some.reply) texts h.plain a.0 (a.1, refl)
     front.part front.missing (tells_front _ _ texts (answer_with c.obey_line.new.session c.in-Some.reply) front.front front.appends
-    c.in-Some.ensures.answers.2 c.in-Some.ensures.answers.3 c.in_default-answer.ensures.seen))
+    c.in-Some.ensures.answers.2 c.in-Some.ensures.answers.3 c.in-Err.ensures.seen))
 
 pub returns-clause-ok : goal.returns-clause-ok
 returns-clause-ok g c = λ text h.

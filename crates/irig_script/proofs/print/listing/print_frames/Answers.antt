@@ -7,14 +7,14 @@ use Rattle.irig_script.proofs.PrintLemmas.FrameLines.{no_record, frame_listed}
 use Rattle.irig_print.proofs.{Blocks.prints_end, Numbered.listed_front, Numbered.listed_more}
 use Rattle.irig_script.proofs.print.listing.print_frames.Goals as goal
 
-pub returns-in_default : goal.returns-in_default
-returns-in_default g c =
+pub returns-in-Err : goal.returns-in-Err
+returns-in-Err g c =
     let s = c.args.session.now.state in
     let k = c.loop-index.index in
     let rs = frames_of s in
     let within : k < length rs = search rules in
     let line = frame_listed s k _ _ within c.text.ensures.text c.put_record.ensures in
-    listed_front (record_line s) 1 rs k no_record _ _ _ _ _ within line c.loop-index.invariant c.in_default.ensures.err
+    listed_front (record_line s) 1 rs k no_record _ _ _ _ _ within line c.loop-index.invariant c.in-Err.ensures.err
 
 pub loop-index-preserved : goal.loop-index-preserved
 loop-index-preserved g c =

@@ -6,13 +6,13 @@ use Rattle.irig_script.proofs.{PrintLemmas.MarkLines.few_marks, PrintLemmas.Mark
 use Rattle.irig_print.proofs.Blocks.{prints_end}
 use Rattle.irig_script.proofs.print.mark_lines.print_marks.Goals as goal
 
-pub returns-in_default : goal.returns-in_default
-returns-in_default g c =
+pub returns-in-Err : goal.returns-in-Err
+returns-in-Err g c =
     let ms = c.args.session.now.state.marks in
     let k = c.loop-place.place in
     let listed = mark_listed ms _ _ k _ _ _ c.new-letter.ensures (omega (arith, c.loop-place-test.true)) c.byte.ensures.value c.mark_time.ensures
     c.text.ensures.text c.put_mark.ensures in
-    listed_front mark_line 0 (take 26 ms) k None _ _ _ _ _ listed.0 listed.1 c.loop-place.invariant c.in_default.ensures.err
+    listed_front mark_line 0 (take 26 ms) k None _ _ _ _ _ listed.0 listed.1 c.loop-place.invariant c.in-Err.ensures.err
 
 pub loop-place-preserved : goal.loop-place-preserved
 loop-place-preserved g c =

@@ -18,8 +18,8 @@ loop-done-preserved g c =
       listing_more s b d k _ _ _ within c.loop-done.invariant.2 (rw whole at c.in-Ok.ensures),
     )
 
-pub returns-in_default : goal.returns-in_default
-returns-in_default g c =
+pub returns-in-Err : goal.returns-in-Err
+returns-in-Err g c =
     let s = c.args.session.now.state in
     let b = c.args.before in
     let d = c.loop-done.done in
@@ -34,7 +34,7 @@ returns-in_default g c =
       c.len.ensures,
     ) in
     let whole = piece_written s (b + d) k c.write_pulses-start.result c.write_pulses-start.new.bytes c.write_pulses-start.ensures.written in
-    listing_front s b d k c.args.count _ _ _ within few c.loop-done.invariant.2 (rw whole at c.in_default.ensures)
+    listing_front s b d k c.args.count _ _ _ within few c.loop-done.invariant.2 (rw whole at c.in-Err.ensures)
 
 pub returns : goal.returns
 returns g c =
