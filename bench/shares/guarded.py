@@ -14,9 +14,9 @@ from irig_tools.mend import propose
 from irig_tools.opening import Opened
 from irig_tools.script import Repair
 from judge import right, seen_as
-from recordings import Recording, samples
+from recordings import Recording, frames_of, samples
 from reference import dump, law, machine
-from repaired import frames_of, is_right, link, made
+from repaired import is_right, link, made
 
 
 class Quick(machine.State):

@@ -12,7 +12,7 @@ from recordings import Recording, samples
 RIGHT = 0.1  # of an interval: a right time is off by less
 EXACT = 2.0  # microseconds: a right time is exact if it is off by no more than that and the jitter
 TREE = os.path.realpath(os.path.join(os.path.dirname(__file__), "../.."))
-PROGRAMS = ("irig_ed", "irig_guard", "irig_diff", "irig_time")
+PROGRAMS = ("irig_ed", "irig_guard", "irig_diff", "irig_time", "irig_explain")
 
 
 class Seen(NamedTuple):
@@ -51,11 +51,11 @@ class Result(NamedTuple):
 
 
 class Judge:
-    """The programs of a folder that is built as this repository, and the tools of that folder or of this one."""
+    """The programs of a folder that is built as this repository, and the tools of that folder, of another one or of this one."""
 
-    def __init__(self, folder: str, find: bool = False) -> None:
+    def __init__(self, folder: str, find: bool = False, tools: str = "") -> None:
         self.built = {name: os.path.join(folder, "crates", name, "out", name) for name in PROGRAMS}
-        mend = os.path.join(folder, "tools/irig_mend")
+        mend = os.path.join(tools or folder, "tools/irig_mend")
         self.mend = mend if os.path.exists(mend) else os.path.join(TREE, "tools/irig_mend")
         self.find = find  # the format, too
 

@@ -13,6 +13,7 @@ from typing import Callable, Dict, List, NamedTuple, Optional, Set, Tuple
 
 import attacks
 import damage
+import dense
 from sent import (
     DAY, FORMATS, HOUR, MINUTE, SECOND, Calendar, Run, Sender, control_elements, digits, has_binary_seconds, has_controls, reads_well,
     year_length)
@@ -436,12 +437,20 @@ KINDS: Dict[str, Kind] = {
     "jit4": Kind(tremble(0.04), few),
 }
 ATTACKS = {name: Kind(*each) for name, each in attacks.KINDS.items()}
+DENSE = {**{name: Kind(nothing, each) for name, each in dense.KINDS.items()},
+         "jit7": Kind(tremble(0.07), few), "jit10": Kind(tremble(0.1), few)}
+ALL = {**KINDS, **ATTACKS, **DENSE}
 TABLE = ("one", "many", "slip", "hole", "off", "sweep", "parity")  # those of the table in docs/ALIGN.md
+
+
+def frames_of(kind: str, seed: int) -> int:
+    """How many frames a recording has."""
+    return Draft(kind, seed, ALL[kind].formats).frames
 
 
 def make(kind: str, seed: int) -> Recording:
     """The recording of a kind with a seed."""
-    what = KINDS.get(kind) or ATTACKS[kind]
+    what = ALL[kind]
     draft = Draft(kind, seed, what.formats)
     what.before(draft)
     draft.send()

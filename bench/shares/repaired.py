@@ -12,13 +12,12 @@ sys.path[:0] = [HERE, os.path.join(HERE, "../../tools")]
 from irig_tools.editor import Listing  # noqa: E402
 from irig_tools.script import Repair  # noqa: E402
 from judge import PROGRAMS  # noqa: E402
-from recordings import ATTACKS, KINDS, Draft, Kind, Recording, nothing  # noqa: E402
+from recordings import ALL, Draft, Recording  # noqa: E402
 from sent import Pulse  # noqa: E402
 from tape import joined  # noqa: E402
 
 BESIDE = 0.6  # of an interval, before a repair and after it
 OFF = 0.1  # of an interval
-DENSE = {"dense": Kind(nothing, lambda draft: draft.some_damage(20, 60))}
 
 
 def link(programs: str, folder: str) -> None:
@@ -28,14 +27,9 @@ def link(programs: str, folder: str) -> None:
     os.environ["IRIG_ED"] = os.path.join(folder, "irig_ed")
 
 
-def frames_of(kind: str, seed: int) -> int:
-    """How many frames a recording has."""
-    return Draft(kind, seed, {**KINDS, **ATTACKS, **DENSE}[kind].formats).frames
-
-
 def made(kind: str, seed: int) -> Tuple[Recording, List[Pulse]]:
     """A recording, and its pulses without any damage of the code: those that the recorder would have written then."""
-    what = {**KINDS, **ATTACKS, **DENSE}[kind]
+    what = ALL[kind]
     draft = Draft(kind, seed, what.formats)
     what.before(draft)
     draft.send()
