@@ -6,7 +6,7 @@ It is known of the recording as it is read (`reading`). So a moment that was mov
 from bisect import bisect_left, bisect_right
 from fractions import Fraction
 from functools import cached_property, lru_cache
-from typing import List, NamedTuple, Optional, Tuple
+from typing import Dict, List, NamedTuple, Optional, Tuple
 
 from reference import explained, explanation, machine, reading, timed_lines, times
 
@@ -80,7 +80,7 @@ class Recorded:
         first, last = (bisect_left(self.claims, (rise + by,)) for by in (-self.interval // 2, self.interval // 2 + 1))
         for _, name, stretch in self.claims[first:last]:
             if name % 100 == element:
-                return self.sure.frames[self.sure.place[stretch, name // 100]].costs[element]
+                return self.sure.costs.get((stretch, name), (0, 0))
         return 0, 0
 
     @cached_property
@@ -91,15 +91,19 @@ class Recorded:
 
     def read_in(self, time: times.Time, element: int) -> Tuple[int, int]:
         """The same in the frames that are sure to have a time; of a format and an expression as that of the time."""
-        found = [frame.costs[element] for frame in self.sure.frames if self.frame_time(frame) == time._replace(year=None)]
+        found = self.told.get((time._replace(year=None), element), [])
         return sum(zero for zero, _ in found), sum(one for _, one in found)
 
-    def frame_time(self, frame: explained.Frame) -> Optional[times.Time]:
-        if frame.base is None:
-            return None
-        code, time = self.sure.code, frame.base + frame.number
-        more = code.inserted if time >= code.inserted else 0
-        return of_hundredths(Fraction((more + time % code.year) * code.period))
+    @cached_property
+    def told(self) -> Dict[Tuple[times.Time, int], List[explained.Costs]]:
+        """What the elements cost whose frame is sure to have a time, by that and their number."""
+        found: Dict[Tuple[times.Time, int], List[explained.Costs]] = {}
+        for (stretch, element), costs in self.sure.costs.items():
+            base = self.sure.base(stretch, element)
+            if base is not None:
+                time = of_hundredths(Fraction(self.sure.code.time(base, element // 100) * self.sure.code.period))
+                found.setdefault((time, element % 100), []).append(costs)
+        return found
 
     def is_shared(self, rise: int, element: int, name: str) -> bool:
         """Whether the believed frames next to a moment, one on each side, both have a class."""
