@@ -9,13 +9,14 @@ from itertools import groupby
 from typing import Callable, Dict, FrozenSet, Iterator, List, NamedTuple, Sequence, Set, Tuple
 
 from reference import timecode
-from reference.explanation import BIT, POSITION, UNUSED, logarithm
+from reference.explanation import BIT, CANNOT, POSITION, UNUSED, logarithm
 
 SET = 176  # the time of the code jumps, and the logarithm of how many frames by: whole frames are lost, or a clock is set
 BLOCK = 32  # frames of a stretch that have the same candidates
 WINDOWS = (BLOCK, 8, 1)  # frames in which a time is looked for
 BEAM = 12  # times kept from each field to the next finer one
 NEAR = 99  # frames
+MOST = 16  # times of a block
 DAY, MINUTE = 24 * 60 * 6000, 6000  # hundredths of a second
 
 Costs = Tuple[int, int]  # what an element costs as a zero, and as a one, beyond the cheaper one
@@ -125,22 +126,22 @@ class Candidates:
                    for ones in (self.code.ones(self.code.time(base, frame[0].frame)),) for bit in frame)
 
     def _found(self, block: Block, carried: Set[int]) -> Set[int]:
-        """The times that cost less than others within some window of a block."""
-        got = carried or set(self._cheapest(block))
+        """The times that cost less than others within some window of a block; of many those that save most."""
+        got = dict.fromkeys(carried or self._cheapest(block), CANNOT)
         for window in WINDOWS:
             for first in range(0, len(block), max(1, window // 2)):
                 self._look_for(block[first:first + window], block, got)
-        return got
+        return set(heapq.nlargest(MOST, got, key=got.__getitem__))
 
-    def _look_for(self, window: Block, block: Block, got: Set[int]) -> None:
-        """Adds the times that cost less than a known one, with how far they are: of those near that, and of all."""
+    def _look_for(self, window: Block, block: Block, got: Dict[int, int]) -> None:
+        """Adds the times that cost less than a known one, with how far they are: of those near that, and of all; and what they save."""
         excludes = SET if len(window) == len(block) else 0  # in a window of a block a jump costs that
         for base in heapq.nsmallest(2, got, key=lambda base: (self._cost(window, base), self._cost(block, base), base)):
             most = self._cost(window, base) + excludes
             near = ((base + by) % self.code.year for by in range(-NEAR, NEAR + 1) if by and most > logarithm(2))
             for times in (near, self._cheapest(window) if most > logarithm(2 + NEAR) else ()):
                 costs = [(self._cost(window, time) + logarithm(1 + self.code.far(base, 0, time)), time) for time in times]
-                got.update(time for cost, time in heapq.nsmallest(2, costs) if cost < most)
+                got.update((time, max(most - cost, got.get(time, 0))) for cost, time in heapq.nsmallest(2, costs) if cost < most)
 
     def _cheapest(self, frames: Block) -> List[int]:
         """The two times of frame 0 that cost least over some frames: field by field, from the finest on."""

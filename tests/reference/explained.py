@@ -12,7 +12,7 @@ from math import isqrt
 from typing import Dict, List, NamedTuple, Optional, Sequence, Set, Tuple
 
 from reference import timecode
-from reference.candidates import DAY, SET, Bit, Candidates, Code, Costs
+from reference.candidates import SET, Bit, Candidates, Code, Costs
 from reference.explanation import JUMPS, NEXT, SURE, UNUSED, WIDTH, Given, Prices, Pulse, Tables, ahead, logarithm, margins
 
 SIXTY = 80  # a minute has a second 60
@@ -20,8 +20,6 @@ UNKNOWN = 11  # a bit of any other time: it is a zero or a one, each with a half
 CONTRADICTS = 80  # a bit that looks like the other class, at most
 AROUND = 8  # elements on each side by which a rise is on the line
 OFF = 20  # a time is off by at most so small a part of an interval
-
-__all__ = ["DAY", "Code", "Times"]
 
 
 class Known(NamedTuple):
@@ -119,11 +117,11 @@ class Times:
                  for one, bases, bit, others in zip(self.bits, sets, self.bits[1:], sets[1:])]
         before, after = pays[:1], [[0] * len(pay) for pay in pays[-1:]]
         for pay, join in zip(pays[1:], joins):
-            before.append([own + min(map(sum, zip(before[-1], ways))) for own, ways in zip(pay, zip(*join))])
+            before.append([own + least(before[-1], ways) for own, ways in zip(pay, zip(*join))])
         for pay, join in zip(pays[:0:-1], joins[::-1]):
             rest = [own + known for own, known in zip(pay, after[-1])]
-            after.append([min(map(sum, zip(rest, ways))) for ways in join])
-        return [self._only(bases, list(map(sum, zip(*both)))) for bases, both in zip(sets, zip(before, after[::-1]))]
+            after.append([least(rest, ways) for ways in join])
+        return [self._only(bases, [one + other for one, other in zip(*both)]) for bases, both in zip(sets, zip(before, after[::-1]))]
 
     def _only(self, bases: Sequence[Optional[int]], totals: Sequence[int]) -> Optional[int]:
         near = [base for base, total in zip(bases, totals) if total < min(totals) + self.least_margin]
@@ -132,16 +130,15 @@ class Times:
     def base(self, stretch: int, element: int) -> Optional[int]:
         """The base of an element: that of the bits next to it, if both are sure of the same one, or that with which the time goes on."""
         place = bisect_right(self.places, (stretch, element))
-        near = [each for each in (place - 1, place) if 0 <= each < len(self.bits) and self.bits[each].stretch == stretch]
-        bases = [self.bases[each] for each in near]
-        if not near or None in bases:
+        near = [(self.bits[each], self.bases[each]) for each in (place - 1, place)
+                if 0 <= each < len(self.bits) and self.bits[each].stretch == stretch]
+        if not near:
             return None
-        if bases[0] == bases[-1]:
-            return bases[0]
-        one, other = near
-        if self.far(self.bits[one], bases[0], self.bits[other], bases[1]) or self.bits[one].frame + 1 < self.bits[other].frame:
-            return None
-        return bases[element // 100 > self.bits[one].frame]
+        (one, base), (bit, other) = near[0], near[-1]
+        if base is None or other is None or base == other:
+            return base if base == other else None
+        goes_on = not self.far(one, base, bit, other) and bit.frame == one.frame + 1
+        return (base if element // 100 == one.frame else other) if goes_on else None
 
     # -- the line
 
@@ -197,3 +194,8 @@ class Times:
         if base is None:
             return None
         return (100 * self.code.time(base, int(element) // 100) + element % 100) * self.code.period / 100
+
+
+def least(costs: Sequence[int], ways: Sequence[int]) -> int:
+    """What the cheapest of some ways costs, each after what it begins with."""
+    return min(cost + way for cost, way in zip(costs, ways))

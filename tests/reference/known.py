@@ -9,6 +9,7 @@ from functools import cached_property, lru_cache
 from typing import Dict, List, NamedTuple, Optional, Tuple
 
 from reference import explained, explanation, machine, reading, timed_lines, times
+from reference.candidates import DAY, Costs
 
 SURE = explanation.NOTHING  # the margin of what is sure: less than a rise costs that is no element, so that noise leaves the rest sure
 NEAR = Fraction(1, explained.OFF)  # of an interval: no time that is known is off by more
@@ -95,9 +96,9 @@ class Recorded:
         return sum(zero for zero, _ in found), sum(one for _, one in found)
 
     @cached_property
-    def told(self) -> Dict[Tuple[times.Time, int], List[explained.Costs]]:
+    def told(self) -> Dict[Tuple[times.Time, int], List[Costs]]:
         """What the elements cost whose frame is sure to have a time, by that and their number."""
-        found: Dict[Tuple[times.Time, int], List[explained.Costs]] = {}
+        found: Dict[Tuple[times.Time, int], List[Costs]] = {}
         for (stretch, element), costs in self.sure.costs.items():
             base = self.sure.base(stretch, element)
             if base is not None:
@@ -117,7 +118,7 @@ class Recorded:
 
 def of_hundredths(many: Fraction) -> times.Time:
     """The time that is some hundredths of a second after the begin of a year; two years later it is in a second 60."""
-    more = 2 * 366 * explained.DAY if many >= 2 * 366 * explained.DAY else 0
+    more = 2 * 366 * DAY if many >= 2 * 366 * DAY else 0
     minutes, rest = divmod(many - more, 6000)
     rest += 100 if more else 0
     return times.Time(None, int(minutes) // 1440 + 1, int(minutes) // 60 % 24, int(minutes) % 60, rest * 10_000)
