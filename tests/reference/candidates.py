@@ -121,9 +121,15 @@ class Candidates:
         first, last = (block, to) if by > 0 else (to, block)
         return {(best + by * shift) % self.code.year for shift in self.shift(first[-1][-1], last[0][0])}
 
-    def _cost(self, frames: Block, base: int) -> int:
-        return sum(bit.costs[bit.element % 100 in ones] for frame in frames
-                   for ones in (self.code.ones(self.code.time(base, frame[0].frame)),) for bit in frame)
+    def _cost(self, frames: Block, base: int, enough: int = CANNOT) -> int:
+        """What the bits of some frames cost with a time; those after enough are not counted."""
+        total = 0
+        for frame in frames:
+            ones = self.code.ones(self.code.time(base, frame[0].frame))
+            total += sum(bit.costs[bit.element % 100 in ones] for bit in frame)
+            if total >= enough:
+                break
+        return total
 
     def _found(self, block: Block, carried: Set[int]) -> Set[int]:
         """The times that cost less than others within some window of a block; of many those that save most."""
@@ -140,7 +146,7 @@ class Candidates:
             most = self._cost(window, base) + excludes
             near = ((base + by) % self.code.year for by in range(-NEAR, NEAR + 1) if by and most > logarithm(2))
             for times in (near, self._cheapest(window) if most > logarithm(2 + NEAR) else ()):
-                costs = [(self._cost(window, time) + logarithm(1 + self.code.far(base, 0, time)), time) for time in times]
+                costs = [(self._cost(window, time, most) + logarithm(1 + self.code.far(base, 0, time)), time) for time in times]
                 got.update((time, max(most - cost, got.get(time, 0))) for cost, time in heapq.nsmallest(2, costs) if cost < most)
 
     def _cheapest(self, frames: Block) -> List[int]:
@@ -153,10 +159,13 @@ class Candidates:
         beam = heapq.nsmallest(BEAM, ((sum(costs[(part + number) % size] for number, costs in fine), part) for part in range(size)))
         for name, count in (("minutes", 60), ("hours", 24), ("days", 366)):
             more: List[Tuple[int, int]] = []
+            known: Dict[Tuple[int, ...], List[int]] = {}  # by the carries of the frames
             for cost, time in beam:
-                carries = [((time + number) // size, table[name]) for number, table in tables]
-                more += [(cost + sum(costs[(value + carry) % count] for carry, costs in carries), value * size + time)
-                         for value in range(count)]
+                carries = tuple((time + number) // size for number, _ in tables)
+                if carries not in known:
+                    known[carries] = [sum(table[name][(value + carry) % count] for carry, (_, table) in zip(carries, tables))
+                                      for value in range(count)]
+                more += [(cost + own, value * size + time) for value, own in enumerate(known[carries])]
             beam, size = heapq.nsmallest(BEAM, more), size * count
         return heapq.nsmallest(2, (time for _, time in beam), key=lambda time: (self._cost(frames, time), time))
 
