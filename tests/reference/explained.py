@@ -8,6 +8,7 @@ at a bit is what all choices have there that cost less than the margin more than
 from __future__ import annotations
 
 from bisect import bisect_right
+from itertools import product
 from math import isqrt
 from typing import Dict, List, NamedTuple, Optional, Sequence, Set, Tuple
 
@@ -20,6 +21,9 @@ UNKNOWN = 11  # a bit of any other time: it is a zero or a one, each with a half
 CONTRADICTS = 80  # a bit that looks like the other class, at most
 AROUND = 8  # elements on each side by which a rise is on the line
 OFF = 20  # a time is off by at most so small a part of an interval
+
+State = Tuple[int, bool]  # a base, and whether a bit has that time, or any other one until the time goes on from that again
+States = Tuple[State, ...]
 
 
 class Known(NamedTuple):
@@ -48,7 +52,8 @@ class Times:
         self.bits = [Bit(stretch, *known, self.costs[stretch, known.element]) for stretch, knowns in enumerate(self.stretches)
                      for known in knowns if known.element % 100 in self.code.bits and (stretch, known.element) in self.costs]
         candidates = Candidates(self.code, self.bits, self.shifts).of_bits()
-        self.bases = self._sure([[*bases, None] for bases in candidates])
+        self.known_joins: Dict[Tuple[States, States, Optional[Bit]], List[List[int]]] = {}
+        self.bases = self._sure([tuple(product(bases, (True, False))) for bases in candidates])
         self.places = [(bit.stretch, bit.element) for bit in self.bits]
 
     # -- the elements
@@ -83,22 +88,23 @@ class Times:
 
     # -- the time of each bit
 
-    def pay(self, bit: Bit, base: Optional[int]) -> int:
-        """What a bit costs with a time."""
-        if base is None:
-            return min(UNKNOWN, sum(bit.costs))
-        return bit.costs[bit.element % 100 in self.code.ones(self.code.time(base, bit.frame))]
+    def pay(self, bit: Bit, base: int, is_known: bool) -> int:
+        """What a bit costs with a time, or with any other one."""
+        one = bit.element % 100 in self.code.ones(self.code.time(base, bit.frame))
+        return bit.costs[one] if is_known else min(UNKNOWN, sum(bit.costs))
 
-    def join(self, one: Bit, base: Optional[int], bit: Bit, other: Optional[int]) -> int:
+    def join(self, one: Bit, base: int, bit: Bit, other: int) -> int:
         """What it costs that a bit has one time, and the next one another."""
-        if base is None or other is None:
-            return 0 if base == other else SET
         if (one.stretch, base) == (bit.stretch, other):
             return 0
         far = self.far(one, base, bit, other)
         if not far:
             return SIXTY if base < self.code.inserted <= other else 0
         return logarithm(1 + far) + (SET if one.stretch == bit.stretch else 0)
+
+    def _join(self, one: Bit, state: State, bit: Bit, other: State) -> int:
+        """The same of two states: from a time to any other one and back is a jump, too."""
+        return max(self.join(one, state[0], bit, other[0]), 0 if state[1] == other[1] else SET)
 
     def far(self, one: Bit, base: int, bit: Bit, other: int) -> int:
         """How many frames a bit's time is from those that can follow the time of the bit before."""
@@ -110,22 +116,28 @@ class Times:
         gone = 0 if one.stretch == bit.stretch else one.element + self.prices.gone(one.rise, bit.rise) - bit.element
         return {gone // 100, (gone + 99) // 100}
 
-    def _sure(self, sets: Sequence[Sequence[Optional[int]]]) -> List[Optional[int]]:
+    def _joins(self, one: Bit, states: States, bit: Bit, others: States) -> List[List[int]]:
+        """All of them; within a frame they are the same for all frames."""
+        key = (states, others, one if (one.stretch, one.frame) != (bit.stretch, bit.frame) else None)
+        if key not in self.known_joins:
+            self.known_joins[key] = [[self._join(one, state, bit, other) for other in others] for state in states]
+        return self.known_joins[key]
+
+    def _sure(self, sets: Sequence[States]) -> List[Optional[int]]:
         """The base of each bit that is sure."""
-        pays = [[self.pay(bit, base) for base in bases] for bit, bases in zip(self.bits, sets)]
-        joins = [[[self.join(one, base, bit, other) for other in others] for base in bases]
-                 for one, bases, bit, others in zip(self.bits, sets, self.bits[1:], sets[1:])]
+        pays = [[self.pay(bit, *state) for state in states] for bit, states in zip(self.bits, sets)]
+        joins = [self._joins(*each) for each in zip(self.bits, sets, self.bits[1:], sets[1:])]
         before, after = pays[:1], [[0] * len(pay) for pay in pays[-1:]]
         for pay, join in zip(pays[1:], joins):
             before.append([own + least(before[-1], ways) for own, ways in zip(pay, zip(*join))])
         for pay, join in zip(pays[:0:-1], joins[::-1]):
             rest = [own + known for own, known in zip(pay, after[-1])]
             after.append([least(rest, ways) for ways in join])
-        return [self._only(bases, [one + other for one, other in zip(*both)]) for bases, both in zip(sets, zip(before, after[::-1]))]
+        return [self._only(states, [one + other for one, other in zip(*both)]) for states, both in zip(sets, zip(before, after[::-1]))]
 
-    def _only(self, bases: Sequence[Optional[int]], totals: Sequence[int]) -> Optional[int]:
-        near = [base for base, total in zip(bases, totals) if total < min(totals) + self.least_margin]
-        return near[0] if len(near) == 1 else None
+    def _only(self, states: States, totals: Sequence[int]) -> Optional[int]:
+        near = [state for state, total in zip(states, totals) if total < min(totals) + self.least_margin]
+        return near[0][0] if len(near) == 1 and near[0][1] else None
 
     def base(self, stretch: int, element: int) -> Optional[int]:
         """The base of an element: that of the bits next to it, if both are sure of the same one, or that with which the time goes on."""
