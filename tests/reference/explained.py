@@ -67,7 +67,7 @@ class Times:
             else:
                 count += ahead(self.prices, *self.claims[number - 1:number + 1])
             self.stretches[-1].append(Known(count, claim.rise))
-            if number + 1 < len(self.claims):
+            if claim.rise and number + 1 < len(self.claims):  # a recording can begin and end within a pulse
                 looks[len(self.stretches) - 1, count] = self._look(number)
         self.unlike = {place for place, look in looks.items() if self.prices.as_roles(look)[self.code.roles[place[1] % 100]] >= WIDTH}
         most = self._contradicts([look for place, look in looks.items() if self.code.roles[place[1] % 100] == UNUSED])
