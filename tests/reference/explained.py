@@ -14,7 +14,7 @@ from typing import Dict, List, NamedTuple, Optional, Sequence, Set, Tuple
 
 from reference import timecode
 from reference.candidates import SET, Bit, Candidates, Code, Costs
-from reference.explanation import JUMPS, NEXT, SURE, UNUSED, WIDTH, Given, Prices, Pulse, Tables, ahead, logarithm, margins
+from reference.explanation import JUMPS, NEXT, PART, SURE, UNUSED, WIDTH, Given, Prices, Pulse, Tables, ahead, logarithm, margins
 
 SIXTY = 80  # a minute has a second 60
 UNKNOWN = 11  # a bit of any other time: it is a zero or a one, each with a half
@@ -178,12 +178,12 @@ class Times:
         return any(2 * sum(self._agrees(here, each) for each in side) > len(side) for side in (before, after))
 
     def _straight(self, one: Known, other: Known) -> bool:
-        """Whether the time between two rises is known: they are as far apart as their elements, and so would be half of these, if the clock
-        of a hole runs as on both sides of it."""
+        """Whether the time between two rises is known: they are as far apart as the clock around says, and that changes so little that half
+        of their elements would be, too."""
         count, tolerance = other.element - one.element, self._tolerance(one, other, 1)
         near = self.prices.intervals[max(0, one.rise - count):other.rise + count + 1]
-        is_steady = count == 1 or count * (max(near) - min(near)) <= 4 * tolerance
-        return is_steady and self.prices.deviation(one.rise, other.rise, count) <= tolerance
+        off = PART * (self.rises[other.rise] - self.rises[one.rise]) - count * sum(near) // len(near)
+        return abs(off) <= tolerance and count * (max(near) - min(near)) <= 8 * tolerance
 
     # -- the time of a moment
 
