@@ -108,12 +108,14 @@ class Candidates:
             found.append(self._found(block, self._carried(self.blocks[number - 1], found[-1], block, 1) if number else set()))
         for number in reversed(range(1, len(self.blocks))):
             found[number - 1] |= self._carried(self.blocks[number], found[number], self.blocks[number - 1], -1)
-        return [self._with_sixties(bases, frame[0].frame) for block, bases in zip(self.blocks, found) for frame in block for _ in frame]
+        return [self._with_turns(bases, frame[0].frame) for block, bases in zip(self.blocks, found) for frame in block for _ in frame]
 
-    def _with_sixties(self, bases: Set[int], frame: int) -> List[int]:
-        """Also the times of a second 60 that a frame can have, after a time or before it."""
+    def _with_turns(self, bases: Set[int], frame: int) -> List[int]:
+        """Also the times of a second 60 that a frame can have, after a time or before it; and for one of day 366 those of day 365 and 1."""
         sixties = {self.code.inserted + (base - by) % self.code.year for base in bases for by in (0, self.code.second) if self.code.second}
-        return sorted(bases | {base for base in sixties if self.code.is_time(self.code.time(base, frame))})
+        days = {(base + by * self.code.day) % self.code.year for base in bases for by in (-1, 1)
+                if self.code.time(base, frame) // self.code.day == 365}
+        return sorted(bases | days | {base for base in sixties if self.code.is_time(self.code.time(base, frame))})
 
     def _carried(self, block: Block, bases: Set[int], to: Block, by: int) -> Set[int]:
         """The best time of a block, as one of the block after it or before it."""
