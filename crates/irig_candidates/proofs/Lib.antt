@@ -1,0 +1,3 @@
+pub mod FarLemmas
+pub mod RowLemmas
+pub mod BitLemmas
