@@ -1,3 +1,6 @@
+pub mod BaseLemmas
+pub mod BestLemmas
+pub mod BitLemmas
 pub mod FarLemmas
 pub mod RowLemmas
-pub mod BitLemmas
+pub mod StandardFacts

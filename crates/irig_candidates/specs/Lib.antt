@@ -1,3 +1,6 @@
+pub mod Bases
 pub mod Bits
+pub mod Far
+pub mod Found
 pub mod Rows
 pub mod Times

@@ -1,11 +1,11 @@
 //! Times as numbers of frames from the begin of a year.
 
 ghost use Rattle.std.specs.Prelude.{◌≡◌, ◌^◌, ◌<◌, ◌≤◌};
-ghost use Rattle.irig_candidates.specs.Times.{alike, apart, can_insert, day_of, far};
-ghost use Rattle.irig_candidates.specs.Times.{far_past_day_365, far_with_inserted, fields_at};
-ghost use Rattle.irig_candidates.specs.Times.{fields_since, inserted_of, is_inserted, is_time};
-ghost use Rattle.irig_candidates.specs.Times.{later, minute_of, period_of, second_of, since};
-ghost use Rattle.irig_candidates.specs.Times.{stays_inserted, time_of, year_of};
+ghost use Rattle.irig_candidates.specs.Far.{alike, apart, can_insert, far, far_past_day_365};
+ghost use Rattle.irig_candidates.specs.Far.{far_with_inserted, later, stays_inserted};
+ghost use Rattle.irig_candidates.specs.Times.{day_of, fields_at, fields_since, inserted_of};
+ghost use Rattle.irig_candidates.specs.Times.{is_inserted, is_time, minute_of, period_of, second_of};
+ghost use Rattle.irig_candidates.specs.Times.{since, time_of, year_of};
 
 use irig_codes::{Fields, Format, Kind};
 
@@ -72,7 +72,7 @@ pub fn inserted(kind: Kind) -> u64
 }
 
 /// The hundredths of a second from the begin of the year to a time.
-fn since(kind: Kind, time: u64) -> u64
+pub fn since(kind: Kind, time: u64) -> u64
     ensures value { result ≡ since kind time }
     ensures most { result < 3162240000 }
 {

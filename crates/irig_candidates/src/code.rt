@@ -2,10 +2,11 @@
 
 ghost use Rattle.std.specs.Prelude.{◌≡◌, ◌*◌, ◌^◌, ◌<◌, ◌≤◌, length};
 ghost use Rattle.irig_candidates.specs.Bits.{cost_of, is_bit, is_one, price, value_cost};
-ghost use Rattle.irig_candidates.specs.{Bits.value_price, Rows.field_of, Times.far};
-ghost use Rattle.irig_candidates.specs.{Times.inserted_of, Times.is_inserted, Times.time_of};
-ghost use Rattle.irig_candidates.specs.{Times.is_time, Times.minute_of, Times.second_of};
-ghost use Rattle.irig_candidates.specs.{Times.year_of, Rows.carried_at};
+ghost use Rattle.irig_candidates.specs.Bits.{value_price};
+ghost use Rattle.irig_candidates.specs.Rows.{carried_at, field_of};
+ghost use Rattle.irig_candidates.specs.Times.{inserted_of, is_inserted, is_time, minute_of};
+ghost use Rattle.irig_candidates.specs.Times.{second_of, since, time_of, year_of};
+ghost use Rattle.irig_candidates.specs.{Far.far};
 
 use crate::bit::Bit;
 use crate::calendar;
@@ -147,6 +148,14 @@ impl Code {
         ensures small { result < 2 ^ 34 }
     {
         calendar::time(self.format.kind(), base, frame)
+    }
+
+    /// The hundredths of a second from the begin of the year to a frame of a stretch.
+    pub fn since(&self, base: u64, frame: u64) -> u64
+        ensures value { result ≡ since self.now.kind (time_of self.now.kind base frame) }
+        ensures small { result < 3162240000 }
+    {
+        calendar::since(self.format.kind(), self.time(base, frame))
     }
 
     /// How far a time is from those that can come some frames after another. Frames count with both:

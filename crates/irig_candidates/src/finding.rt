@@ -1,0 +1,199 @@
+//! The bases that what a block looks like does not exclude: they cost less in some of its frames than a
+//! base that is known, and than a jump from that.
+
+ghost use Rattle.std.specs.Prelude.{◌^◌, ◌≤◌, IfOk, IfSome, OnOk, length};
+ghost use Rattle.irig_candidates.specs.{Bases.AreBases, Found.IsPair};
+
+use crate::bases::put_base;
+use crate::bit::Bit;
+use crate::cheapest::cheapest_bases;
+use crate::code::Code;
+use crate::found::Found;
+use crate::frames::bits_of;
+use crate::jumps::Jumps;
+use crate::near::{near, priced};
+use crate::pair::Pair;
+use std::alloc::{AllocError, Global};
+
+/// How many frames from a known base are looked at, on each side.
+pub const NEAR: u64 = 99;
+
+/// The bases of a block, by its bits. `carried` are those that the block before it gives it.
+pub fn find_bases<J: Jumps>(
+    alloc: Global,
+    code: &Code,
+    jumps: &J,
+    bits: &[Bit],
+    carried: &[u64],
+) -> Result<Vec<u64>, AllocError>
+    requires { length bits.now ≤ 2 ^ 30 }
+    ensures { IfOk result (λ bases. AreBases code.now.kind bases.items) }
+{
+    let mut bases = first_bases(alloc, code, bits, carried)?;
+    look_in(alloc, code, jumps, bits, 32, 16, &mut bases)?;
+    look_in(alloc, code, jumps, bits, 8, 4, &mut bases)?;
+    look_in(alloc, code, jumps, bits, 1, 1, &mut bases)?;
+    Ok(bases)
+}
+
+fn first_bases(
+    alloc: Global,
+    code: &Code,
+    bits: &[Bit],
+    carried: &[u64],
+) -> Result<Vec<u64>, AllocError>
+    requires { length bits.now ≤ 2 ^ 30 }
+    ensures { IfOk result (λ bases. AreBases code.now.kind bases.items) }
+{
+    let mut bases = Vec::new(alloc);
+    if carried.is_empty() {
+        let pair = cheapest_bases(alloc, code, bits)?;
+        put_below(code, pair, u64::MAX, &mut bases)?;
+    }
+    for base in carried {
+        put_base(code, &mut bases, *base)?;
+    }
+    Ok(bases)
+}
+
+/// Looks in windows of some frames, each one `step` frames after the one before it.
+fn look_in<J: Jumps>(
+    alloc: Global,
+    code: &Code,
+    jumps: &J,
+    bits: &[Bit],
+    frames: usize,
+    step: usize,
+    bases: &mut Vec<u64>,
+) -> Result<(), AllocError>
+    requires few { length bits.now ≤ 2 ^ 30 }
+    requires window { 1 ≤ frames }
+    requires on { 1 ≤ step }
+    requires known { AreBases code.now.kind bases.old.items }
+    ensures { OnOk result (AreBases code.now.kind bases.new.items) }
+{
+    let mut rest = bits;
+    while !rest.is_empty() {
+        let window = &rest[..bits_of(rest, frames)];
+        let set = if window.len() == bits.len() {
+            u64::from(jumps.set())
+        } else {
+            0
+        };
+        if let Some(pair) = best_two(code, window, bits, bases.as_slice()) {
+            look_from_both(alloc, code, jumps, window, pair, set, bases)?;
+        }
+        rest = &rest[bits_of(rest, step)..];
+    }
+    Ok(())
+}
+
+/// The two bases that cost least in a window, and of the same cost in the block.
+fn best_two(code: &Code, window: &[Bit], block: &[Bit], bases: &[u64]) -> Option<Pair>
+    requires window { length window.now ≤ 2 ^ 30 }
+    requires block { length block.now ≤ 2 ^ 30 }
+    ensures { IfSome result IsPair }
+{
+    let mut pair = None;
+    for base in bases {
+        let in_window = code.cost(*base, window).saturating_mul(1 << 30);
+        let found = Found {
+            cost: in_window.saturating_add(code.cost(*base, block)),
+            base: *base,
+        };
+        pair = Some(with(pair, found));
+    }
+    pair
+}
+
+/// A pair with one more.
+pub fn with(pair: Option<Pair>, found: Found) -> Pair
+    requires { IfSome pair IsPair }
+    ensures { IsPair result }
+{
+    match pair {
+        None => Pair::of(found),
+        Some(pair) => pair.with(found),
+    }
+}
+
+fn look_from_both<J: Jumps>(
+    alloc: Global,
+    code: &Code,
+    jumps: &J,
+    window: &[Bit],
+    pair: Pair,
+    set: u64,
+    bases: &mut Vec<u64>,
+) -> Result<(), AllocError>
+    requires few { length window.now ≤ 2 ^ 30 }
+    requires known { AreBases code.now.kind bases.old.items }
+    ensures { OnOk result (AreBases code.now.kind bases.new.items) }
+{
+    look_from(alloc, code, jumps, window, pair.first.base, set, bases)?;
+    if let Some(second) = pair.second {
+        look_from(alloc, code, jumps, window, second.base, set, bases)?;
+    }
+    Ok(())
+}
+
+/// Puts the bases that cost less in a window than a known one, with the jump to them.
+fn look_from<J: Jumps>(
+    alloc: Global,
+    code: &Code,
+    jumps: &J,
+    window: &[Bit],
+    base: u64,
+    set: u64,
+    bases: &mut Vec<u64>,
+) -> Result<(), AllocError>
+    requires few { length window.now ≤ 2 ^ 30 }
+    requires known { AreBases code.now.kind bases.old.items }
+    ensures { OnOk result (AreBases code.now.kind bases.new.items) }
+{
+    let most = code.cost(base, window).saturating_add(set);
+    if most > u64::from(jumps.by(1)) {
+        put_below(code, near(code, jumps, window, base), most, bases)?;
+    }
+    if most > u64::from(jumps.by(1 + NEAR)) {
+        let pair = cheapest_bases(alloc, code, window)?;
+        put_below(code, priced(code, jumps, window, base, pair), most, bases)?;
+    }
+    Ok(())
+}
+
+/// Puts those of a pair that cost less than that.
+fn put_below(
+    code: &Code,
+    pair: Option<Pair>,
+    most: u64,
+    bases: &mut Vec<u64>,
+) -> Result<(), AllocError>
+    requires { AreBases code.now.kind bases.old.items }
+    ensures { OnOk result (AreBases code.now.kind bases.new.items) }
+{
+    let Some(pair) = pair else {
+        return Ok(());
+    };
+    put_if_below(code, pair.first, most, bases)?;
+    match pair.second {
+        None => Ok(()),
+        Some(second) => put_if_below(code, second, most, bases),
+    }
+}
+
+fn put_if_below(
+    code: &Code,
+    found: Found,
+    most: u64,
+    bases: &mut Vec<u64>,
+) -> Result<(), AllocError>
+    requires { AreBases code.now.kind bases.old.items }
+    ensures { OnOk result (AreBases code.now.kind bases.new.items) }
+{
+    if found.cost < most {
+        put_base(code, bases, found.base)
+    } else {
+        Ok(())
+    }
+}
