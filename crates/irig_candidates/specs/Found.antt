@@ -1,5 +1,5 @@
 -- Bases that were found by what bits look like: this project's own.
-use Rattle.std.specs.Prelude.{ℕ, ◌≡◌, ◌==◌, ◌<◌, ◌≤◌, ◌&&◌, ◌||◌, ◌⊎◌, nat_lt, Bool, List, Some, IfSome}
+use Rattle.std.specs.Prelude.{◌≡◌, ◌==◌, ◌<◌, ◌≤◌, ◌&&◌, ◌||◌, ◌⊎◌, nat_lt, Bool, List, Some, IfSome}
 use Rattle.irig_codes.specs.Format.{FormatView}
 use Rattle.irig_candidates.specs.declared.bit.Bit.{Bit}
 use Rattle.irig_candidates.specs.declared.found.Found.{Found}

@@ -1,7 +1,7 @@
 -- The times of frames, counted in frames from the begin of a year that no field names, so it has 366
 -- days. After IRIG Standard 200-04; how a second 60 is counted is this project's own.
-use Rattle.std.specs.Prelude.{ℕ, ◌+◌, ◌-◌, ◌*◌, ◌/◌, ◌%◌, ◌&&◌, ◌||◌, not, nat_le, nat_lt, min}
-use Rattle.std.specs.Prelude.{Bool, true, false, if◌then◌else◌}
+use Rattle.std.specs.Prelude.{ℕ, ◌+◌, ◌*◌, ◌/◌, ◌%◌, ◌||◌, nat_le, nat_lt}
+use Rattle.std.specs.Prelude.{Bool, if◌then◌else◌}
 use Rattle.irig_codes.specs.declared.format.Kind.{Kind}
 use Rattle.irig_codes.specs.declared.fields.Fields.{Fields}
 use Rattle.irig_codes.specs.Format.{FormatView, carries_sbs, frame_period_of, has_control}

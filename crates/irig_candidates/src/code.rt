@@ -1,6 +1,6 @@
 //! A format as what its frames say of time.
 
-ghost use Rattle.std.specs.Prelude.{◌≡◌, ◌*◌, ◌^◌, ◌<◌, ◌≤◌, length};
+ghost use Rattle.std.specs.Prelude.{◌≡◌, ◌*◌, ◌^◌, ◌<◌, ◌≤◌, MatchOption, length};
 ghost use Rattle.irig_candidates.specs.Bits.{cost_of, is_bit, is_one, price, value_cost};
 ghost use Rattle.irig_candidates.specs.Bits.{value_price};
 ghost use Rattle.irig_candidates.specs.Rows.{carried_at, field_of};
@@ -94,6 +94,22 @@ impl Code {
             total += self.price(base, bit);
         }
         total
+    }
+
+    /// The same, if it is less than that.
+    pub fn cost_below(&self, base: u64, bits: &[Bit], most: u64) -> Option<u64>
+        requires { length bits.now ≤ 2 ^ 30 }
+        ensures { MatchOption result (most ≤ cost_of self.now base bits.now)
+            (λ cost. (cost ≡ cost_of self.now base bits.now) × (cost < most)) }
+    {
+        let mut total = 0;
+        for bit in bits {
+            if most <= total {
+                return None;
+            }
+            total += self.price(base, bit);
+        }
+        if total < most { Some(total) } else { None }
     }
 
     fn price(&self, base: u64, bit: &Bit) -> u64

@@ -1,7 +1,7 @@
 //! The bases that what a block looks like does not exclude: they cost less in some of its frames than a
 //! base that is known, and than a jump from that.
 
-ghost use Rattle.std.specs.Prelude.{◌^◌, ◌≤◌, IfOk, IfSome, OnOk, length};
+ghost use Rattle.std.specs.Prelude.{◌^◌, ◌<◌, ◌≤◌, IfOk, IfSome, OnOk, length};
 ghost use Rattle.irig_candidates.specs.{Bases.AreBases, Found.IsPair};
 
 use crate::bases::put_base;
@@ -11,7 +11,7 @@ use crate::code::Code;
 use crate::found::Found;
 use crate::frames::bits_of;
 use crate::jumps::Jumps;
-use crate::near::{near, priced};
+use crate::near::{jumped_pair, near};
 use crate::pair::Pair;
 use std::alloc::{AllocError, Global};
 
@@ -75,17 +75,59 @@ fn look_in<J: Jumps>(
     let mut rest = bits;
     while !rest.is_empty() {
         let window = &rest[..bits_of(rest, frames)];
-        let set = if window.len() == bits.len() {
-            u64::from(jumps.set())
-        } else {
-            0
-        };
-        if let Some(pair) = best_two(code, window, bits, bases.as_slice()) {
-            look_from_both(alloc, code, jumps, window, pair, set, bases)?;
-        }
+        look_for(alloc, code, jumps, window, bits, bases)?;
         rest = &rest[bits_of(rest, step)..];
     }
     Ok(())
+}
+
+/// What a jump costs within a block: nothing says that one of the whole block is none.
+fn set_in<J: Jumps>(jumps: &J, window: &[Bit], block: &[Bit]) -> u64
+    ensures { result < 2 ^ 32 }
+{
+    if window.len() == block.len() {
+        u64::from(jumps.set())
+    } else {
+        0
+    }
+}
+
+/// Puts the bases that cost less in a window than the two best known ones, with the jump to them.
+fn look_for<J: Jumps>(
+    alloc: Global,
+    code: &Code,
+    jumps: &J,
+    window: &[Bit],
+    block: &[Bit],
+    bases: &mut Vec<u64>,
+) -> Result<(), AllocError>
+    requires window { length window.now ≤ 2 ^ 30 }
+    requires block { length block.now ≤ 2 ^ 30 }
+    requires known { AreBases code.now.kind bases.old.items }
+    ensures { OnOk result (AreBases code.now.kind bases.new.items) }
+{
+    let set = set_in(jumps, window, block);
+    if is_explained(code, jumps, window, set, bases.as_slice()) {
+        return Ok(());
+    }
+    match best_two(code, window, block, bases.as_slice()) {
+        None => Ok(()),
+        Some(pair) => look_from_both(alloc, code, jumps, window, pair, set, bases),
+    }
+}
+
+/// Whether a known base costs no more in a window than a jump by a frame.
+fn is_explained<J: Jumps>(code: &Code, jumps: &J, window: &[Bit], set: u64, bases: &[u64]) -> bool
+    requires few { length window.now ≤ 2 ^ 30 }
+    requires small { set < 2 ^ 32 }
+{
+    let enough = (u64::from(jumps.by(1)) + 1).saturating_sub(set);
+    for base in bases {
+        if code.cost_below(*base, window, enough).is_some() {
+            return true;
+        }
+    }
+    false
 }
 
 /// The two bases that cost least in a window, and of the same cost in the block.
@@ -130,21 +172,23 @@ fn look_from_both<J: Jumps>(
     requires known { AreBases code.now.kind bases.old.items }
     ensures { OnOk result (AreBases code.now.kind bases.new.items) }
 {
-    look_from(alloc, code, jumps, window, pair.first.base, set, bases)?;
-    if let Some(second) = pair.second {
-        look_from(alloc, code, jumps, window, second.base, set, bases)?;
+    let anywhere = cheapest_bases(alloc, code, window)?;
+    look_from(code, jumps, window, pair.first.base, set, anywhere, bases)?;
+    match pair.second {
+        None => Ok(()),
+        Some(second) => look_from(code, jumps, window, second.base, set, anywhere, bases),
     }
-    Ok(())
 }
 
-/// Puts the bases that cost less in a window than a known one, with the jump to them.
+/// Puts the bases that cost less in a window than a known one, with the jump to them: of the near ones,
+/// and of those that cost least of all.
 fn look_from<J: Jumps>(
-    alloc: Global,
     code: &Code,
     jumps: &J,
     window: &[Bit],
     base: u64,
     set: u64,
+    anywhere: Option<Pair>,
     bases: &mut Vec<u64>,
 ) -> Result<(), AllocError>
     requires few { length window.now ≤ 2 ^ 30 }
@@ -152,14 +196,14 @@ fn look_from<J: Jumps>(
     ensures { OnOk result (AreBases code.now.kind bases.new.items) }
 {
     let most = code.cost(base, window).saturating_add(set);
-    if most > u64::from(jumps.by(1)) {
-        put_below(code, near(code, jumps, window, base), most, bases)?;
+    put_below(code, near(code, jumps, window, base, most), most, bases)?;
+    match anywhere {
+        None => Ok(()),
+        Some(pair) => {
+            let pair = jumped_pair(code, jumps, window, base, pair, most);
+            put_below(code, pair, most, bases)
+        }
     }
-    if most > u64::from(jumps.by(1 + NEAR)) {
-        let pair = cheapest_bases(alloc, code, window)?;
-        put_below(code, priced(code, jumps, window, base, pair), most, bases)?;
-    }
-    Ok(())
 }
 
 /// Puts those of a pair that cost less than that.

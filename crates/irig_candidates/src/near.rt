@@ -1,6 +1,6 @@
 //! Bases with what they cost by bits, and by the jump from a known one.
 
-ghost use Rattle.std.specs.Prelude.{◌^◌, ◌≤◌, IfSome, length};
+ghost use Rattle.std.specs.Prelude.{◌^◌, ◌<◌, ◌≤◌, IfSome, length};
 ghost use Rattle.irig_candidates.specs.Found.{IsPair};
 
 use crate::bit::Bit;
@@ -10,8 +10,8 @@ use crate::found::Found;
 use crate::jumps::Jumps;
 use crate::pair::Pair;
 
-/// The two near ones that cost least.
-pub fn near<J: Jumps>(code: &Code, jumps: &J, bits: &[Bit], base: u64) -> Option<Pair>
+/// The two near ones that cost least, of those that cost less than that.
+pub fn near<J: Jumps>(code: &Code, jumps: &J, bits: &[Bit], base: u64, most: u64) -> Option<Pair>
     requires { length bits.now ≤ 2 ^ 30 }
     ensures { IfSome result IsPair }
 {
@@ -21,37 +21,58 @@ pub fn near<J: Jumps>(code: &Code, jumps: &J, bits: &[Bit], base: u64) -> Option
     for by in 0..2 * NEAR + 1 {
         if by != NEAR {
             let other = (base + year + by - NEAR) % year;
-            pair = Some(with(pair, jumped(code, jumps, bits, base, other)));
+            pair = and(pair, jumped(code, jumps, bits, base, other, most));
         }
     }
     pair
 }
 
-/// The same of a pair.
-pub fn priced<J: Jumps>(
+/// Those of a pair, with the jump.
+pub fn jumped_pair<J: Jumps>(
     code: &Code,
     jumps: &J,
     bits: &[Bit],
     base: u64,
-    pair: Option<Pair>,
+    pair: Pair,
+    most: u64,
 ) -> Option<Pair>
     requires { length bits.now ≤ 2 ^ 30 }
     ensures { IfSome result IsPair }
 {
-    let pair = pair?;
-    let first = Pair::of(jumped(code, jumps, bits, base, pair.first.base));
+    let first = and(None, jumped(code, jumps, bits, base, pair.first.base, most));
     match pair.second {
-        None => Some(first),
-        Some(second) => Some(first.with(jumped(code, jumps, bits, base, second.base))),
+        None => first,
+        Some(second) => and(first, jumped(code, jumps, bits, base, second.base, most)),
     }
 }
 
-fn jumped<J: Jumps>(code: &Code, jumps: &J, bits: &[Bit], base: u64, other: u64) -> Found
+/// A base by what it costs with the jump to it, if that is less.
+fn jumped<J: Jumps>(
+    code: &Code,
+    jumps: &J,
+    bits: &[Bit],
+    base: u64,
+    other: u64,
+    most: u64,
+) -> Option<Found>
     requires { length bits.now ≤ 2 ^ 30 }
+    ensures { IfSome result (λ x. x.cost < most) }
 {
     let jump = u64::from(jumps.by(code.far(base, 1, other)));
-    Found {
-        cost: code.cost(other, bits).saturating_add(jump),
+    let cost = code.cost_below(other, bits, most.saturating_sub(jump))?;
+    Some(Found {
+        cost: cost + jump,
         base: other,
+    })
+}
+
+/// A pair with one more, if there is one.
+fn and(pair: Option<Pair>, found: Option<Found>) -> Option<Pair>
+    requires { IfSome pair IsPair }
+    ensures { IfSome result IsPair }
+{
+    match found {
+        None => pair,
+        Some(found) => Some(with(pair, found)),
     }
 }
