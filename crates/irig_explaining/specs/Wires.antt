@@ -6,7 +6,7 @@ use Rattle.irig_explaining.specs.declared.{prices.Prices.Prices, pulse.Pulse.Pul
 use Rattle.irig_explaining.specs.declared.stretch.Stretch.{Stretch}
 use Rattle.irig_explaining.specs.declared.table.TheConstants.{PART, SKIP, NOTHING}
 use Rattle.irig_explaining.specs.Distances.{rise_at, interval_at}
-use Rattle.irig_explaining.specs.{Looks.extra, Looks.high, Looks.inside, Looks.role_look}
+use Rattle.irig_explaining.specs.{Looks.extra, Looks.high, Looks.inside, Looks.look, Looks.role_look}
 use Rattle.irig_explaining.specs.{Missing.missing}
 
 -- the pulses from a rise on that an element can have, and where its wire ends if the next claim is
@@ -17,7 +17,8 @@ near p r = take 12 (drop r p.pulses.now)
 abbrev pub wire_end : Prices → ℕ → ℕ
 wire_end p r = rise_at p r + 15 * interval_at p r / (16 * PART)
 
--- the wire from a rise to a moment, and what it costs as an element of a role
+-- the wire from a rise to a moment, and what it costs as a pulse of some tenths, and as an element
+-- of a role
 abbrev pub stretch : Prices → ℕ → ℕ → Stretch
 stretch p r end = record {
   begin = rise_at p r;
@@ -27,6 +28,9 @@ stretch p r end = record {
   extra = extra (length (inside end (near p r)));
   high = high end (inside end (near p r));
 }
+
+abbrev pub as_pulse : Prices → ℕ → ℕ → ℕ → ℕ
+as_pulse p tenths r end = look (stretch p r end) tenths (near p r)
 
 abbrev pub element : Prices → Role → ℕ → ℕ → ℕ
 element p role r end = role_look (stretch p r end) role (near p r)

@@ -52,12 +52,13 @@ impl<'a> Prices<'a> {
 
     /// How many elements the clock says lie between two rises. Most often it is one or two, and a
     /// division takes long.
-    pub(crate) fn gone(&self, rise: usize, later: usize) -> u64
+    pub fn gone(&self, rise: usize, later: usize) -> u64
         requires rise { rise < length self.now.pulses.now }
         requires later { later < length self.now.pulses.now }
         ensures exact { result ≡ gone self.now rise later }
         ensures some { 0 < result }
         ensures few { result ≤ 2 ^ 49 }
+        ensures near { result ≤ apart self.now rise later + 1 }
     {
         let interval = self.interval(rise, later);
         let apart = self.apart(rise, later);

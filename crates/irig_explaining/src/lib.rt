@@ -53,6 +53,7 @@ pub use clock::Clock;
 pub use costs::{Costs, Places};
 pub use explanation::{Explanation, explain};
 pub use median::middles;
+pub use missing::logarithm;
 pub use prices::Prices;
 pub use pulse::Pulse;
 pub use reach::Reach;

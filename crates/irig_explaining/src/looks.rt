@@ -101,7 +101,7 @@ impl Stretch {
     }
 
     /// What an element costs as a pulse of some tenths of an interval.
-    fn look(self, tenths: u64, pulses: &[Pulse]) -> u64
+    pub(crate) fn look(self, tenths: u64, pulses: &[Pulse]) -> u64
         requires fits { Fits self }
         requires tenths { tenths ≤ 10 }
         requires timely { All IsTimely pulses.now }

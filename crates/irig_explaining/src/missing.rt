@@ -19,10 +19,10 @@ pub(crate) fn missing(count: u64) -> u64
 
 /// Sixteen times the natural logarithm of a number from 1 on: larger ones are halved until the
 /// table has them.
-fn logarithm(number: u64) -> u64
+pub fn logarithm(number: u64) -> u64
     requires { number < 2 ^ 50 }
     ensures exact { result ≡ logarithm number }
-    ensures small { result < 2 ^ 54 }
+    ensures small { result < 2 ^ 10 }
 {
     let mut left = number;
     let mut more = 0;

@@ -5,7 +5,8 @@ ghost use Rattle.std.specs.List.{count_by};
 ghost use Rattle.std.specs.List.Sorted.{IsNonDecreasingBy};
 ghost use Rattle.irig_explaining.specs.Looks.{Fits, IsTimely};
 ghost use Rattle.irig_explaining.specs.Distances.{gone, rise_at};
-ghost use Rattle.irig_explaining.specs.{Priced.role_at, Wires.between, Wires.element, Wires.near, Wires.passed};
+ghost use Rattle.irig_explaining.specs.{Priced.role_at, Wires.as_pulse, Wires.between, Wires.element};
+ghost use Rattle.irig_explaining.specs.{Wires.near, Wires.passed};
 ghost use Rattle.irig_explaining.specs.Wires.{stretch, wire, wire_end};
 
 use crate::looks::{count_inside, extra, high_inside};
@@ -52,7 +53,7 @@ impl<'a> Prices<'a> {
     }
 
     /// Where the wire of an element ends if the next claim is not about the element after it.
-    fn wire_end(&self, rise: usize) -> u64
+    pub fn wire_end(&self, rise: usize) -> u64
         requires { rise < length self.now.pulses.now }
         ensures exact { result ≡ wire_end self.now rise }
         ensures early { result ≤ 2 ^ 41 }
@@ -76,6 +77,17 @@ impl<'a> Prices<'a> {
             extra: extra(count_inside(end, near)),
             high: high_inside(end, near),
         }
+    }
+
+    /// What the wire from a rise to a moment costs as a pulse of some tenths of an interval.
+    pub fn as_pulse(&self, tenths: u64, rise: usize, end: u64) -> u64
+        requires tenths { tenths ≤ 10 }
+        requires rise { rise < length self.now.pulses.now }
+        requires end { end ≤ 2 ^ 41 }
+        ensures exact { result ≡ as_pulse self.now tenths rise end }
+        ensures small { result ≤ 112 }
+    {
+        self.stretch(rise, end).look(tenths, self.near(rise))
     }
 
     /// What the wire from a rise to a moment costs as an element of a role.

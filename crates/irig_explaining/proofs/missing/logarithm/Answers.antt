@@ -1,6 +1,6 @@
 use Rattle.std.proofs.Common.{◌≡◌, ◌+◌, ◌/◌, ◌≤◌, ◌∙◌, ℕ, zero, suc, refl, arith}
 use Rattle.irig_explaining.specs.Missing.{halved}
-use Rattle.irig_explaining.proofs.Halved.{halved_high, halved_same}
+use Rattle.irig_explaining.proofs.Halved.{halved_high, halved_low, halved_same, halved_small}
 use Rattle.irig_explaining.proofs.missing.logarithm.Goals as goal
 
 -- one halving
@@ -13,3 +13,10 @@ loop-left-preserved c = let le = c.loop-left-test.true in record {
   exact = omega (arith, c.loop-left.invariant.exact, halved_once c.loop-left.left le);
   small = omega (arith, c.loop-left.invariant.small);
 }
+
+pub returns-clause-small : goal.returns-clause-small
+returns-clause-small c =
+    let left = c.loop-left.left in
+    let same = halved_low left left (omega arith) (omega arith) in
+    let small = halved_small 46 c.args.number c.args.number (omega arith) (omega arith) in
+    omega (arith, c.loop-left.invariant.exact, same, small)
