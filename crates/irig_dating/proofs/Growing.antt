@@ -14,17 +14,17 @@ pushed (r ∷ rs) row that zero e = inl e
 pushed (r ∷ rs) row that (suc i) e = elim (pushed rs row that i e) [ inl h ↦ inl h | inr h ↦ (let same = h.0 in inr (cc, h.1)) ]
 
 -- one more row
-pub rows_more : (p : Prices) (frames : ℕ) (rows : List (Vec ℕ)) (row : Vec ℕ) → AreRows p frames rows
-    → IsRow p frames (frames - 1 - length rows) row.items → AreRows p frames (rows ++ row ∷ [])
-rows_more p frames rows row are is = λ i that e.
+pub rows_more : (p : Prices) (bits : ℕ) (rows : List (Vec ℕ)) (row : Vec ℕ) → AreRows p bits rows
+    → IsRow p bits (bits - 1 - length rows) row.items → AreRows p bits (rows ++ row ∷ [])
+rows_more p bits rows row are is = λ i that e.
     elim (pushed rows row that i e) [
       | inl was ↦ are i that was
-      | inr new ↦ subst (λ (r : Vec ℕ). IsRow p frames (frames - 1 - i) r.items) new.1
-          (subst (λ n. IsRow p frames (frames - 1 - n) row.items) (sym new.0) is)
+      | inr new ↦ subst (λ (r : Vec ℕ). IsRow p bits (bits - 1 - i) r.items) new.1
+          (subst (λ n. IsRow p bits (bits - 1 - n) row.items) (sym new.0) is)
     ]
 
--- the row of a frame
-pub row_at : (p : Prices) (frames : ℕ) (rows : List (Vec ℕ)) (t i : ℕ) (row : Vec ℕ) → AreRows p frames rows → i < length rows
-    → frames - 1 - i ≡ t → row ≡ get_or rows i row → IsRow p frames t row.items
-row_at p frames rows t i row are lt same is =
-    subst (λ n. IsRow p frames n row.items) same (are i row (slice_get_read rows (length rows) i row refl lt is))
+-- the row of a bit
+pub row_at : (p : Prices) (bits : ℕ) (rows : List (Vec ℕ)) (t i : ℕ) (row : Vec ℕ) → AreRows p bits rows → i < length rows
+    → bits - 1 - i ≡ t → row ≡ get_or rows i row → IsRow p bits t row.items
+row_at p bits rows t i row are lt same is =
+    subst (λ n. IsRow p bits n row.items) same (are i row (slice_get_read rows (length rows) i row refl lt is))

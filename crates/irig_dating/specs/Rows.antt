@@ -1,4 +1,4 @@
--- The table: what the frames after one cost at least, for each of its candidates. This project's
+-- The table: what the bits after one cost at least, for each of its candidates. This project's
 -- own.
 use Rattle.std.specs.Prelude.{ℕ, ◌≡◌, ◌+◌, ◌-◌, ◌*◌, ◌^◌, ◌≤◌, List, length, Option, Some}
 use Rattle.std.specs.Prelude.{slice_get, slice_index_or}
@@ -6,31 +6,31 @@ use Rattle.std.specs.Global.{Vec}
 use Rattle.irig_dating.specs.Choices.{Prices, AreChosen, cost_from, step}
 use Rattle.irig_dating.specs.declared.ways.Way.{Way}
 
--- a candidate for each of the frames from one on
+-- a candidate for each of the bits from one on
 abbrev pub AreRest : Prices → ℕ → ℕ → List ℕ → Type 0
-AreRest p frames t cs = (t + length cs ≡ frames) × AreChosen p t cs
+AreRest p bits t cs = (t + length cs ≡ bits) × AreChosen p t cs
 
--- what the frames from one on cost at least, after a candidate of the frame before
-pub record IsLeast (p : Prices) (frames t : ℕ) (before : Option ℕ) (least : ℕ) : Type 0 where
-  pub low : (cs : List ℕ) → AreRest p frames t cs → least ≤ cost_from p t before cs
+-- what the bits from one on cost at least, after a candidate of the bit before
+pub record IsLeast (p : Prices) (bits t : ℕ) (before : Option ℕ) (least : ℕ) : Type 0 where
+  pub low : (cs : List ℕ) → AreRest p bits t cs → least ≤ cost_from p t before cs
   pub rest : List ℕ
-  pub possible : AreRest p frames t rest
+  pub possible : AreRest p bits t rest
   pub exact : cost_from p t before rest ≡ least
-  pub small : least ≤ (frames - t) * 2 ^ 33
+  pub small : least ≤ (bits - t) * 2 ^ 33
 
--- the row of a frame: that for each of its candidates
-pub record IsRow (p : Prices) (frames t : ℕ) (row : List ℕ) : Type 0 where
+-- the row of a bit: that for each of its candidates
+pub record IsRow (p : Prices) (bits t : ℕ) (row : List ℕ) : Type 0 where
   pub full : length row ≡ p.last t + 1
-  pub each : (c : ℕ) → c ≤ p.last t → IsLeast p frames (t + 1) (Some c) (slice_index_or row c 0)
+  pub each : (c : ℕ) → c ≤ p.last t → IsLeast p bits (t + 1) (Some c) (slice_index_or row c 0)
 
--- rows of frames, the last frame first
+-- rows of bits, the last bit first
 abbrev pub AreRows : Prices → ℕ → List (Vec ℕ) → Type 0
-AreRows p frames rows =
-    (i : ℕ) (row : Vec ℕ) → slice_get rows i ≡ Some row → IsRow p frames (frames - 1 - i) row.items
+AreRows p bits rows =
+    (i : ℕ) (row : Vec ℕ) → slice_get rows i ≡ Some row → IsRow p bits (bits - 1 - i) row.items
 
--- a candidate of a frame with which the rest costs least
-pub record IsWay (p : Prices) (frames t : ℕ) (before : Option ℕ) (row : List ℕ) (w : Way)
+-- a candidate of a bit with which the rest costs least
+pub record IsWay (p : Prices) (bits t : ℕ) (before : Option ℕ) (row : List ℕ) (w : Way)
     : Type 0 where
-  pub least : IsLeast p frames t before w.cost
+  pub least : IsLeast p bits t before w.cost
   pub there : w.to ≤ p.last t
   pub exact : w.cost ≡ step p t before w.to + slice_index_or row w.to 0

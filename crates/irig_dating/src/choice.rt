@@ -8,7 +8,7 @@ use crate::rows::rest;
 use crate::ways::cheapest_way;
 use std::alloc::{AllocError, Global};
 
-/// A candidate for each frame, and what they cost.
+/// A candidate for each bit, and what they cost.
 #[derive(Drop)]
 pub struct Choice {
     pub candidates: Vec<usize>,
@@ -18,24 +18,24 @@ pub struct Choice {
 pub fn cheapest<C: Costs>(
     alloc: Global,
     costs: &C,
-    frames: usize,
+    bits: usize,
     rows: &[Vec<u64>],
 ) -> Result<Choice, AllocError>
-    requires few { frames ≤ 2 ^ 30 }
-    requires all { length rows.now ≡ frames }
-    requires rows { AreRows (C.prices costs.now) frames rows.now }
-    ensures possible { IfOk result (λ x. IsChoice (C.prices costs.now) frames x.candidates.items) }
+    requires few { bits ≤ 2 ^ 30 }
+    requires all { length rows.now ≡ bits }
+    requires rows { AreRows (C.prices costs.now) bits rows.now }
+    ensures possible { IfOk result (λ x. IsChoice (C.prices costs.now) bits x.candidates.items) }
     ensures exact { IfOk result (λ x. cost (C.prices costs.now) x.candidates.items ≡ x.cost) }
     ensures least { IfOk result (λ x. (others : List ℕ)
-        → IsChoice (C.prices costs.now) frames others
+        → IsChoice (C.prices costs.now) bits others
         → x.cost ≤ cost (C.prices costs.now) others) }
 {
-    let cost = rest(costs, frames, 0, None, rows);
+    let cost = rest(costs, bits, 0, None, rows);
     let mut candidates = Vec::new(alloc);
     let mut before = None;
-    for frame in 0..frames {
-        let row = rows[frames - 1 - frame].as_slice();
-        let way = cheapest_way(costs, frames, frame, before, row);
+    for bit in 0..bits {
+        let row = rows[bits - 1 - bit].as_slice();
+        let way = cheapest_way(costs, bits, bit, before, row);
         candidates.push(way.to)?;
         before = Some(way.to);
     }

@@ -1,21 +1,21 @@
-//! What candidates of frames cost.
+//! What candidates of bits cost.
 
 ghost use Rattle.std.specs.Prelude.{◌≡◌};
 ghost use Rattle.irig_dating.specs.Choices.{Prices};
 
-/// The costs of candidates. Frames and candidates count from 0, and each frame has one at least.
+/// The costs of candidates. Bits and candidates count from 0, and each bit has one at least.
 pub trait Costs {
     ghost prices: { Self → Prices };
 
-    /// The last candidate of a frame.
-    fn last(&self, frame: usize) -> u32
-        ensures { result ≡ (prices self.now).last frame };
+    /// The last candidate of a bit.
+    fn last(&self, bit: usize) -> u32
+        ensures { result ≡ (prices self.now).last bit };
 
-    /// What a candidate of a frame costs.
-    fn pay(&self, frame: usize, candidate: usize) -> u32
-        ensures { result ≡ (prices self.now).pay frame candidate };
+    /// What a candidate of a bit costs.
+    fn pay(&self, bit: usize, candidate: usize) -> u32
+        ensures { result ≡ (prices self.now).pay bit candidate };
 
-    /// What it costs that a frame has a candidate, and the frame before it one of its own.
-    fn join(&self, frame: usize, before: usize, candidate: usize) -> u32
-        ensures { result ≡ (prices self.now).join frame before candidate };
+    /// What it costs that a bit has a candidate, and the bit before it one of its own.
+    fn join(&self, bit: usize, before: usize, candidate: usize) -> u32
+        ensures { result ≡ (prices self.now).join bit before candidate };
 }

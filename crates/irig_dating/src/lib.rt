@@ -1,4 +1,4 @@
-//! The time of each frame by the cheapest choice among candidates, and what all cheap choices say.
+//! The time of each bit by the cheapest choice among candidates, and what all cheap choices say.
 #![tactic(auto)]
 
 mod choice;

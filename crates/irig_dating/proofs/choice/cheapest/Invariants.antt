@@ -2,5 +2,5 @@ use Rattle.irig_dating.proofs.Reading.{IsRead}
 use Rattle.irig_dating.proofs.choice.cheapest.Given as goal
 
 -- the candidates so far
-abbrev pub invariant-loop-frame : goal.invariant-loop-frame
-invariant-loop-frame g l = IsRead (g.C.Costs.prices l.costs) l.fn.frames l.frame l.before l.candidates.items
+abbrev pub invariant-loop-bit : goal.invariant-loop-bit
+invariant-loop-bit g l = IsRead (g.C.Costs.prices l.costs) l.fn.bits l.bit l.before l.candidates.items

@@ -7,5 +7,5 @@ abbrev pub invariant-loop-candidate : goal.invariant-loop-candidate
 invariant-loop-candidate g l = record {
   full : length l.row.items ≡ l.candidate;
   each : (c : ℕ) → c < l.candidate
-      → IsLeast (g.C.Costs.prices l.costs) l.fn.frames (l.fn.frame + 1) (Some c) (get_or l.row.items c 0);
+      → IsLeast (g.C.Costs.prices l.costs) l.fn.bits (l.fn.bit + 1) (Some c) (get_or l.row.items c 0);
 }
