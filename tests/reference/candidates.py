@@ -13,7 +13,7 @@ from reference.explanation import BIT, CANNOT, POSITION, UNUSED, logarithm
 
 SET = 176  # the time of the code jumps, and the logarithm of how many frames by: whole frames are lost, or a clock is set
 BLOCK = 32  # frames of a stretch that have the same candidates
-WINDOWS = (BLOCK, 8, 1)  # frames in which a time is looked for
+WINDOWS = (BLOCK, 16, 8, 4, 2, 1)  # frames in which a time is looked for
 BEAM = 12  # times kept from each field to the next finer one
 NEAR = 99  # frames
 MOST = 16  # times of a block

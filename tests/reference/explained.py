@@ -149,8 +149,9 @@ class Times:
         (one, base), (bit, other) = near[0], near[-1]
         if base is None or other is None or base == other:
             return base if base == other else None
-        goes_on = not self.far(one, base, bit, other) and bit.frame == one.frame + 1
-        return (base if element // 100 == one.frame else other) if goes_on else None
+        frame, time = element // 100, self.code.time(base, one.frame)
+        turned = not self.code.far(time, frame - one.frame, self.code.time(other, frame))
+        return None if self.far(one, base, bit, other) else other if turned else base
 
     # -- the line
 
