@@ -6,6 +6,7 @@ from __future__ import annotations
 import heapq
 from functools import lru_cache
 from itertools import groupby
+from operator import itemgetter
 from typing import Callable, Dict, FrozenSet, Iterator, List, NamedTuple, Sequence, Set, Tuple
 
 from reference import timecode
@@ -138,14 +139,13 @@ class Candidates:
         got = dict.fromkeys(carried or self._cheapest(block), CANNOT)
         for window in WINDOWS:
             for first in range(0, len(block), max(1, window // 2)):
-                self._look_for(block[first:first + window], block, got)
+                part = block[first:first + window]
+                self._look_for(part, SET if len(part) == len(block) else 0, got)
         return set(heapq.nlargest(MOST, got, key=got.__getitem__))
 
-    def _look_for(self, window: Block, block: Block, got: Dict[int, int]) -> None:
+    def _look_for(self, window: Block, excludes: int, got: Dict[int, int]) -> None:
         """Adds the times that cost less than a known one, with how far they are: of those near that, and of all; and what they save."""
-        excludes = SET if len(window) == len(block) else 0  # in a window of a block a jump costs that
-        for base in heapq.nsmallest(2, got, key=lambda base: (self._cost(window, base), self._cost(block, base), base)):
-            most = self._cost(window, base) + excludes
+        for most, base in heapq.nsmallest(2, ((self._cost(window, base) + excludes, base) for base in got), key=itemgetter(0)):
             near = ((base + by) % self.code.year for by in range(-NEAR, NEAR + 1) if by and most > logarithm(2))
             for times in (near, self._cheapest(window) if most > logarithm(2 + NEAR) else ()):
                 costs = [(self._cost(window, time, most) + logarithm(1 + self.code.far(base, 0, time)), time) for time in times]
