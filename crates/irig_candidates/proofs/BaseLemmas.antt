@@ -2,8 +2,7 @@
 use Rattle.std.proofs.Common.{◌≡◌, ℕ, zero, suc, ◌+◌, ◌<◌, ◌≤◌, List, [], ◌∷◌, ◌++◌, get_or, map, take, drop, length, sym, ap, ◌∙◌, subst, arith}
 use Rattle.std.specs.List.{range_with_len}
 use Rattle.std.proofs.lemmas.{List.Edits.length-insert, List.FromFn.map-range_with_len_more}
-use Rattle.irig_codes.specs.declared.format.Kind.{Kind}
-use Rattle.irig_candidates.specs.{Bases.AreBases, Bases.AreRising, Times.year_of}
+use Rattle.irig_candidates.specs.{Bases.AreFew, Bases.AreRising}
 
 pub rising-insert : (least most : ℕ) (xs : List ℕ) (p x : ℕ) → AreRising least most xs → least ≤ x → x < most → p ≤ length xs
     → ((i : ℕ) → i < p → get_or xs i 0 < x) → (p < length xs → x < get_or xs p 0) → AreRising least most (take p xs ++ (x ∷ drop p xs))
@@ -21,24 +20,25 @@ rising-insert least most (y ∷ ys) (suc p) x r low high within below above =
       ),
     )
 
-inserted : (xs : List ℕ) (p x : ℕ) → p ≤ length xs → length xs < 16 → length (take p xs ++ (x ∷ drop p xs)) ≤ 16
-inserted xs p x h k = let long : length (take p xs ++ (x ∷ drop p xs)) ≡ length xs + 1 = length-insert xs p x h in omega (arith, long, k)
+inserted : (xs : List ℕ) (p x most : ℕ) → p ≤ length xs → length xs < most → length (take p xs ++ (x ∷ drop p xs)) ≤ most
+inserted xs p x most h k = let long : length (take p xs ++ (x ∷ drop p xs)) ≡ length xs + 1 = length-insert xs p x h in omega (arith, long, k)
 
 less : (a b : ℕ) → a ≤ b → (b ≡ a → ⊥) → a < b
 less a b h k = grind arith
 
 -- what is known of the place of a new base
-pub put-bases : (k : Kind) (xs ys new : List ℕ) (p x : ℕ) → AreBases k xs → ys ≡ xs → new ≡ take p xs ++ (x ∷ drop p xs) → x < year_of k → length ys < 16
-    → p ≤ length ys → ((i : ℕ) → i < p → get_or ys i 0 < x) → (p < length ys → x ≤ get_or ys p 0) → (p < length ys → get_or ys p 0 ≡ x → ⊥) → AreBases k new
-put-bases k xs ys new p x known same is of_year room within below above unlike =
+pub put-one : (below most : ℕ) (xs ys new : List ℕ) (p x : ℕ) → AreFew below most xs → ys ≡ xs → new ≡ take p xs ++ (x ∷ drop p xs) → x < below
+    → length ys < most → p ≤ length ys → ((i : ℕ) → i < p → get_or ys i 0 < x) → (p < length ys → x ≤ get_or ys p 0) → (p < length ys → get_or ys p 0 ≡ x → ⊥)
+    → AreFew below most new
+put-one below most xs ys new p x known same is high room within lower higher unlike =
     let long : length ys ≡ length xs = ap length same in
     record {
-      rising = subst (AreRising 0 (year_of k)) (sym is)
-          (rising-insert 0 (year_of k) xs p x known.rising (omega arith) of_year (omega (arith, long))
-          (λ i h. subst (λ (zs : List ℕ). get_or zs i 0 < x) same (below i h))
+      rising = subst (AreRising 0 below) (sym is)
+          (rising-insert 0 below xs p x known.rising (omega arith) high (omega (arith, long))
+          (λ i h. subst (λ (zs : List ℕ). get_or zs i 0 < x) same (lower i h))
           (λ h. let there : p < length ys = omega (arith, long, h) in
-          subst (λ (zs : List ℕ). x < get_or zs p 0) same (less x (get_or ys p 0) (above there) (unlike there))));
-      few = subst (λ (zs : List ℕ). length zs ≤ 16) (sym is) (inserted xs p x (omega (arith, long, within)) (omega (arith, long, room)));
+          subst (λ (zs : List ℕ). x < get_or zs p 0) same (less x (get_or ys p 0) (higher there) (unlike there))));
+      few = subst (λ (zs : List ℕ). length zs ≤ most) (sym is) (inserted xs p x most (omega (arith, long, within)) (omega (arith, long, room)));
     }
 
 -- a table with one more value

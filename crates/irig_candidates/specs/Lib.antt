@@ -3,4 +3,5 @@ pub mod Bits
 pub mod Far
 pub mod Found
 pub mod Rows
+pub mod Sets
 pub mod Times

@@ -1,7 +1,7 @@
 //! The bases that the frames of a block can have, in their order.
 
 ghost use Rattle.std.specs.Prelude.{ℕ, ◌≡◌, ◌<◌, ◌≤◌, IsFalse, OnOk, length, slice_index};
-ghost use Rattle.irig_candidates.specs.{Bases.AreBases};
+ghost use Rattle.irig_candidates.specs.{Bases.AreBases, Bases.AreFew};
 
 use crate::code::Code;
 use std::alloc::AllocError;
@@ -14,21 +14,27 @@ pub fn put_base(code: &Code, bases: &mut Vec<u64>, base: u64) -> Result<(), Allo
     requires { AreBases code.now.kind bases.old.items }
     ensures { OnOk result (AreBases code.now.kind bases.new.items) }
 {
-    let base = base % code.year();
+    put_few(bases, MOST, base % code.year())
+}
+
+/// Puts a base, if it is a new one, and there are fewer than `most`.
+pub fn put_few(bases: &mut Vec<u64>, most: usize, base: u64) -> Result<(), AllocError>
+    ensures { OnOk result ((below : ℕ) → base < below → AreFew below most bases.old.items
+        → AreFew below most bases.new.items) }
+{
     let known = bases.as_slice();
     let place = place(known, base);
-    if is_full(known) || is_at(known, place, base) {
+    if is_full(known, most) || is_at(known, place, base) {
         return Ok(());
     }
     bases.insert(place, base)?;
     Ok(())
 }
 
-fn is_full(bases: &[u64]) -> bool
-    requires { length bases.now ≤ 16 }
-    ensures { IsFalse result → length bases.now < 16 }
+fn is_full(bases: &[u64], most: usize) -> bool
+    ensures { IsFalse result → length bases.now < most }
 {
-    bases.len() == MOST
+    most <= bases.len()
 }
 
 /// How many are less than it.

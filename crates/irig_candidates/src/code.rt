@@ -4,7 +4,7 @@ ghost use Rattle.std.specs.Prelude.{◌≡◌, ◌*◌, ◌^◌, ◌<◌, ◌≤
 ghost use Rattle.irig_candidates.specs.Bits.{cost_of, is_bit, is_one, price, value_cost};
 ghost use Rattle.irig_candidates.specs.Bits.{value_price};
 ghost use Rattle.irig_candidates.specs.Rows.{carried_at, field_of};
-ghost use Rattle.irig_candidates.specs.Times.{inserted_of, is_inserted, is_time, minute_of};
+ghost use Rattle.irig_candidates.specs.Times.{day_of, inserted_of, is_inserted, is_time, minute_of};
 ghost use Rattle.irig_candidates.specs.Times.{second_of, since, time_of, year_of};
 ghost use Rattle.irig_candidates.specs.{Far.far};
 
@@ -198,6 +198,15 @@ impl Code {
         ensures most { result ≤ 6000 }
     {
         calendar::minute(self.format.kind())
+    }
+
+    /// How many frames a day has.
+    pub fn day(&self) -> u64
+        ensures value { result ≡ day_of self.now.kind }
+        ensures least { 8640 ≤ result }
+        ensures most { result ≤ 8640000 }
+    {
+        calendar::day(self.format.kind())
     }
 
     /// How many frames a year of 366 days has.

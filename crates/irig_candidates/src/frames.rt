@@ -1,6 +1,6 @@
 //! Bits frame by frame.
 
-ghost use Rattle.std.specs.Prelude.{◌<◌, ◌≤◌, length};
+ghost use Rattle.std.specs.Prelude.{◌≡◌, ◌<◌, ◌≤◌, IsTrue, length};
 
 use crate::bit::Bit;
 
@@ -23,8 +23,13 @@ pub fn bits_of(bits: &[Bit], frames: usize) -> usize
 }
 
 /// Whether a bit is the first one of its frame.
-fn begins(bits: &[Bit], place: usize) -> bool
+pub fn begins(bits: &[Bit], place: usize) -> bool
     requires { place < length bits.now }
+    ensures { place ≡ 0 → IsTrue result }
 {
-    place == 0 || bits[place].frame != bits[place - 1].frame
+    if place == 0 {
+        return true;
+    }
+    let (before, bit) = (bits[place - 1], bits[place]);
+    before.frame != bit.frame || before.stretch != bit.stretch
 }
