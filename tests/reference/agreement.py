@@ -1,7 +1,8 @@
 """Whether a result agrees with its recording, as docs/GUARD.md has it: each moment that has a time keeps it, to both bounds, and none gets
 one next to a pulse that the law of time doubts."""
 from bisect import bisect_right
-from typing import List, NamedTuple, Optional, Set, Tuple
+from functools import cached_property
+from typing import Iterable, List, NamedTuple, Optional, Set, Tuple
 
 from reference import machine, timed_lines, times
 from reference.law import WIDEST, Law
@@ -19,7 +20,11 @@ class Agreement:
     """What a recording says, for comparisons."""
 
     def __init__(self, opened: machine.State) -> None:
-        self.pulses, self.recorded, self.period = opened.pulses(), track_of(opened), times.PERIOD[opened.kind]
+        self.opened, self.pulses, self.period = opened, opened.pulses(), times.PERIOD[opened.kind]
+
+    @cached_property
+    def recorded(self) -> timed_lines.Track:
+        return track_of(self.opened)
 
     def faults(self, result: machine.State) -> List[Fault]:
         """The moments at which a result does not agree, just before a rise of the recording and at it, and then of the result; in each of
@@ -27,12 +32,14 @@ class Agreement:
         if result.pulses() == self.pulses:
             return []
         now = track_of(result)
-        changed = spans(self.recorded.law) ^ spans(now.law)  # elsewhere times are the same
+        changed = joined(spans(self.recorded.law) ^ spans(now.law))  # elsewhere times are the same
+        begins = [first for first, _ in changed]
         found: List[Fault] = []
         for rises in (self.recorded.law.rises, now.law.rises):
             for moment in (each for rise in rises for each in (max(rise - 1, 0), rise)):
                 is_told = found and 0 <= moment - found[-1].moment < self.period
-                if not is_told and any(first <= moment < end for first, end, *_ in changed):
+                last = bisect_right(begins, moment) - 1
+                if not is_told and last >= 0 and moment < changed[last][1]:
                     why = self.change(moment, now)
                     found += [Fault(moment, why % moment)] if why else []
         return found
@@ -55,14 +62,25 @@ def track_of(state: machine.State) -> timed_lines.Track:
     return timed_lines.Track(timed_lines.Options(state.kind, state.expression), state.pulses())
 
 
-def spans(law: Law) -> Set[Tuple[object, ...]]:
+def joined(many: Iterable[Tuple[int, int, Tuple[object, ...]]]) -> List[Tuple[int, int]]:
+    """The moments that are in some of many spans, as spans that are apart, in their order."""
+    found: List[Tuple[int, int]] = []
+    for first, end in sorted(each[:2] for each in many):
+        if found and first <= found[-1][1]:
+            found[-1] = found[-1][0], max(end, found[-1][1])
+        else:
+            found.append((first, end))
+    return found
+
+
+def spans(law: Law) -> Set[Tuple[int, int, Tuple[object, ...]]]:
     """Between which rises there are times, and on what lines."""
     found = set()
     for one, other in zip(law.places, law.places[1:]):
         many = law.elements_between(one, other)
         bound = law.bound(one, other, many) if many else None
         if bound is not None and bound <= WIDEST:
-            found.add((law.rises[one], law.rises[other], law.element_of(law.points[one]), many))
+            found.add((law.rises[one], law.rises[other], (law.element_of(law.points[one]), many)))
     return found
 
 

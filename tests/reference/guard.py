@@ -1,6 +1,7 @@
 """A guard for proposed repairs, as docs/GUARD.md has it: each is tried, and kept only if the result is safe; and what is kept agrees with
 the recording."""
 from bisect import bisect_left, bisect_right
+from functools import cached_property
 from typing import Any, Dict, Iterator, List, NamedTuple, Optional, Sequence, Tuple
 
 from reference import language, machine, timecode
@@ -242,9 +243,13 @@ class Controls:
         self.code = opened.kind, opened.expression
         fields = timecode.layout(*self.code)
         self.elements = [element for element, _ in fields["control"][0]] if "control" in fields else []
-        self.odd = [(frame.shown, bit) for frame in fines for bit in self._odd(frame)]
+        self.fines = fines
         even = [[frame for frame in frames if not self._odd(frame)] for frames in others]
         self.even = [shown for frames in even for shown in backed(bearing, frames)]
+
+    @cached_property
+    def odd(self) -> List[Tuple[Shown, int]]:
+        return [(frame.shown, bit) for frame in self.fines for bit in self._odd(frame)]
 
     def are_supported(self, near: Near, frame: Fine) -> bool:
         """Whether each is recorded, or as in the nearest frames on both sides, or what was recorded of it was lost, or as most others
