@@ -94,9 +94,9 @@ ROWS = (
 )
 
 
-def limited(more=0):
+def limited():
     resource.setrlimit(resource.RLIMIT_CPU, (BUSY, BUSY))
-    resource.setrlimit(resource.RLIMIT_AS, (MEMORY + more, MEMORY + more))
+    resource.setrlimit(resource.RLIMIT_AS, (MEMORY, MEMORY))
 
 
 def bounded(top, name, words, made, status, text):

@@ -99,7 +99,7 @@ remarks_obeyed : (m : Machine) (remarks : List (List ℕ)) → AllByRecursion Is
 remarks_obeyed m [] h = refl
 remarks_obeyed m (r ∷ rs) h = (m, (command.Nothing, h.0.asks, tt, (refl, refl)), remarks_obeyed m rs h.1)
 
-agrees_agrees : (a b c : Machine) → Agrees a b → Agrees c b → Agrees a c
+pub agrees_agrees : (a b c : Machine) → Agrees a b → Agrees c b → Agrees a c
 agrees_agrees a b c h k =
     record { state = h.state ∙ sym k.state; cursor = h.cursor ∙ sym k.cursor; past = h.past ∙ sym k.past; floor = h.floor ∙ sym k.floor }
 

@@ -1,5 +1,5 @@
 -- That a recording and what a run under guard leaves agree, as wholes. This project's own.
-use Rattle.std.specs.Prelude.{◌≡◌, ◌∷◌, ◌++◌, ℕ, false, List, Option, Some, None, get_or}
+use Rattle.std.specs.Prelude.{◌≡◌, ◌++◌, ℕ, false, List}
 use Rattle.irig_codes.specs.Format.{FormatView}
 use Rattle.irig_recording.specs.declared.pulse.Pulse.{Pulse}
 use Rattle.irig_edit.specs.State.State.{State}
@@ -24,16 +24,14 @@ pub record IsRecordedOf (s : State) (recorded : RecordedView) : Type 0 where
 abbrev pub AgreesAfter : TermsView → State → State → Type 0
 AgreesAfter terms old new = terms.moved ≡ false → Agree old.format century old.pulses new.pulses
 
--- lines that are obeyed from a session on these pulses lead to a state with this fault
-pub record HasLedTo (recorded : List Pulse) (f : FormatView) (why : Fault) : Type 0 where
+-- lines that are obeyed from a session on these pulses, those of a repair among them, lead to a
+-- state with this fault
+pub record HasLedTo (recorded : List Pulse) (f : FormatView) (repair : List (List ℕ)) (why : Fault)
+    : Type 0 where
   pub first : Machine
   pub recording : first.state.pulses ≡ recorded
-  pub lines : List (List ℕ)
+  pub front : List (List ℕ)
+  pub rest : List (List ℕ)
   pub last : Machine
-  pub obeyed : ObeyedAll first lines last
+  pub obeyed : ObeyedAll first (front ++ (repair ++ rest)) last
   pub fault : IsFault f century recorded last.state.pulses why
-
--- the reasons for which repairs are barred, by the line that each begins at
-abbrev pub AreBars : List Pulse → FormatView → List (Option Fault) → Type 0
-AreBars recorded f bars =
-    (at : ℕ) (why : Fault) → get_or bars at None ≡ Some why → HasLedTo recorded f why

@@ -71,10 +71,10 @@ Holds opened last old (Refused why) =
 Holds opened last old reason = Sways opened last old.state reason
 
 -- why a repair is dropped: it is none; or the editor refuses a line of it; or memory runs out for
--- what its lines lead to; or that may not stay; or it is barred, as a result had this fault
+-- what its lines lead to; or that may not stay; or it is barred, as a result with it had this fault
 abbrev pub Drops : OriginalView → List Shown → Machine → List (List ℕ) → Reason → Type 0
 Drops opened last old lines NoRepair = MayBeKept lines → ⊥
 Drops opened last old lines (Refused why) = IsRefusedAt old lines why
 Drops opened last old lines OutOfMemory = AreMade old lines
 Drops opened last old lines (NotSafe why) = IsUnsafe opened last old lines why
-Drops opened last old lines (Disagrees why) = HasLedTo opened.pulses old.state.format why
+Drops opened last old lines (Disagrees why) = HasLedTo opened.pulses old.state.format lines why

@@ -1,4 +1,5 @@
 pub mod Agreeing
+pub mod Bars
 pub mod Controls
 pub mod Cutting
 pub mod Drops

@@ -1,56 +1,25 @@
 //! Which repairs of a script are barred, as what was kept with them did not agree with the
 //! recording.
 
-ghost use Rattle.std.specs.Prelude.{◌≡◌, ℕ, List, Some, None, IfOk, get_or, slice_get};
+ghost use Rattle.std.specs.Prelude.{◌≡◌, ◌≤◌, ◌<◌, ℕ, List, Some, None, OnOk, get_or, length, slice_get};
 ghost use Rattle.irig_codes.specs.Format.{FormatView};
 ghost use Rattle.irig_agreement.specs.declared.fault.Fault.{Fault as SomeFault};
-ghost use Rattle.irig_guarding.specs.Agreeing.{AreBars, HasLedTo};
+ghost use Rattle.irig_guarding.specs.{Agreeing.HasLedTo, Bars.AreBars, Bars.HaveLedTo, Bars.IsRepairAt};
 ghost use Rattle.irig_recording.specs.declared.pulse.Pulse.{Pulse as SomePulse};
 
+use crate::kept::KeptAt;
 use irig_agreement::Fault;
-use irig_edit::Session;
 use irig_safety::Shown;
-use std::alloc::{AllocError, Global};
+use std::alloc::AllocError;
 
 /// From this on rounds are late: this project's own choice.
 const FEW: u64 = 8;
-
-/// A repair that was kept: the line that it begins at, from 0, and when what it changed last rises,
-/// in microseconds.
-#[derive(Clone, Copy)]
-pub struct KeptAt {
-    pub line: usize,
-    pub moment: u64,
-}
-
-/// No repair is barred: a list of `count` times `None`, one for each line.
-pub fn no_bars(alloc: Global, count: usize) -> Result<Vec<Option<Fault>>, AllocError>
-    ensures { (recorded : List SomePulse) (f : FormatView)
-        → IfOk result (λ bars. AreBars recorded f bars.items) }
-{
-    let mut bars = Vec::with_capacity(alloc, count)?;
-    for _index in 0..count {
-        bars.push(None)?;
-    }
-    Ok(bars)
-}
 
 /// Why the repair is barred that begins at this line, from 0; `None` if it is not.
 pub fn bar_at(bars: &[Option<Fault>], at: usize) -> Option<Fault>
     ensures { result ≡ get_or bars.now at None }
 {
     if at < bars.len() { bars[at] } else { None }
-}
-
-/// The place of a repair that was just kept: the cursor is at what it changed last.
-pub fn kept_at(session: &Session, line: usize) -> KeptAt {
-    let cursor = session.cursor();
-    let moment = if cursor > 0 && cursor <= session.len() {
-        session.pulse(cursor).rise
-    } else {
-        0
-    };
-    KeptAt { line, moment }
 }
 
 /// Bars repairs that were kept at faults (`bar_by`).
@@ -60,14 +29,16 @@ pub fn bar_near(
     frames: &[Shown],
     faults: &[Fault],
     times: u64,
-)
-    ensures { (recorded : List SomePulse) (f : FormatView)
-        → ((i : ℕ) (why : SomeFault) → slice_get faults.now i ≡ Some why → HasLedTo recorded f why)
-        → AreBars recorded f bars.old.items → AreBars recorded f bars.new.items }
+) -> Result<(), AllocError>
+    ensures { (recorded : List SomePulse) (f : FormatView) (lines : List (List ℕ))
+        → ((i : ℕ) (why : SomeFault) → slice_get faults.now i ≡ Some why
+        → HaveLedTo recorded f lines kept.now why) → AreBars recorded f lines bars.old.items
+        → OnOk result (AreBars recorded f lines bars.new.items) }
 {
     for fault in faults {
-        bar_by(bars, kept, frames, *fault, times);
+        bar_by(bars, kept, frames, *fault, times)?;
     }
+    Ok(())
 }
 
 /// Bars what was kept around a fault (`span_of`).
@@ -77,12 +48,13 @@ fn bar_by(
     frames: &[Shown],
     fault: Fault,
     times: u64,
-)
-    ensures { (recorded : List SomePulse) (f : FormatView) → HasLedTo recorded f fault
-        → AreBars recorded f bars.old.items → AreBars recorded f bars.new.items }
+) -> Result<(), AllocError>
+    ensures { (recorded : List SomePulse) (f : FormatView) (lines : List (List ℕ))
+        → HaveLedTo recorded f lines kept.now fault → AreBars recorded f lines bars.old.items
+        → OnOk result (AreBars recorded f lines bars.new.items) }
 {
     let (begin, end) = span_of(kept, frames, fault.moment, times);
-    bar_between(bars, kept, begin, end, fault);
+    bar_between(bars, kept, begin, end, fault)
 }
 
 /// From where to before where repairs are barred: between the `frames` around a moment. If none was
@@ -133,31 +105,65 @@ fn nearest(kept: &[KeptAt], moment: u64, is_before: bool) -> u64 {
 }
 
 /// Bars those that were kept from one moment to before another.
-fn bar_between(bars: &mut Vec<Option<Fault>>, kept: &[KeptAt], begin: u64, end: u64, fault: Fault)
-    ensures { (recorded : List SomePulse) (f : FormatView) → HasLedTo recorded f fault
-        → AreBars recorded f bars.old.items → AreBars recorded f bars.new.items }
+fn bar_between(
+    bars: &mut Vec<Option<Fault>>,
+    kept: &[KeptAt],
+    begin: u64,
+    end: u64,
+    fault: Fault,
+) -> Result<(), AllocError>
+    ensures { (recorded : List SomePulse) (f : FormatView) (lines : List (List ℕ))
+        → HaveLedTo recorded f lines kept.now fault → AreBars recorded f lines bars.old.items
+        → OnOk result (AreBars recorded f lines bars.new.items) }
 {
-    for index in 0..kept.len() {
-        bar(bars, line_between(kept[index], begin, end), fault);
+    for at in kept {
+        bar_if(bars, at.line, fault, begin <= at.moment && at.moment < end)?;
     }
+    Ok(())
 }
 
-/// The line of a repair that was kept from one moment to before another; else one that no script
-/// has.
-fn line_between(at: KeptAt, begin: u64, end: u64) -> usize {
-    if begin <= at.moment && at.moment < end {
-        at.line
-    } else {
-        usize::MAX
+/// Bars the repair that begins at a line, if so.
+fn bar_if(
+    bars: &mut Vec<Option<Fault>>,
+    line: usize,
+    fault: Fault,
+    so: bool,
+) -> Result<(), AllocError>
+    ensures { (recorded : List SomePulse) (f : FormatView) (lines repair : List (List ℕ))
+        → IsRepairAt lines line repair → HasLedTo recorded f repair fault
+        → AreBars recorded f lines bars.old.items
+        → OnOk result (AreBars recorded f lines bars.new.items) }
+{
+    if so {
+        return bar(bars, line, fault);
     }
+    Ok(())
 }
 
 /// Bars the repair that begins at a line.
-fn bar(bars: &mut Vec<Option<Fault>>, line: usize, fault: Fault)
-    ensures { (recorded : List SomePulse) (f : FormatView) → HasLedTo recorded f fault
-        → AreBars recorded f bars.old.items → AreBars recorded f bars.new.items }
+fn bar(bars: &mut Vec<Option<Fault>>, line: usize, fault: Fault) -> Result<(), AllocError>
+    ensures { (recorded : List SomePulse) (f : FormatView) (lines repair : List (List ℕ))
+        → IsRepairAt lines line repair → HasLedTo recorded f repair fault
+        → AreBars recorded f lines bars.old.items
+        → OnOk result (AreBars recorded f lines bars.new.items) }
 {
+    lengthen(bars, line)?;
     if line < bars.len() {
         bars[line] = Some(fault);
+        return Ok(());
     }
+    bars.push(Some(fault))?;
+    Ok(())
+}
+
+/// Makes a list that long, with repairs that are not barred: it has none past the last one that is.
+fn lengthen(bars: &mut Vec<Option<Fault>>, many: usize) -> Result<(), AllocError>
+    ensures long { OnOk result (many ≤ length bars.new.items) }
+    ensures same { OnOk result ((at : ℕ) → get_or bars.new.items at None
+        ≡ get_or bars.old.items at None) }
+{
+    for _place in bars.len()..many {
+        bars.push(None)?;
+    }
+    Ok(())
 }

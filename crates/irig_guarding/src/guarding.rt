@@ -4,7 +4,7 @@ ghost use Rattle.std.specs.Prelude.{◌≡◌, [], IfOk, IfSome, None, OnOk, is_
 ghost use Rattle.irig_guarding.specs.Guarded.{IsSafeAfter, Reaches};
 ghost use Rattle.irig_guarding.specs.{Trials.IsTriedBefore, Printed.Shows, Undone.IsUndone};
 ghost use Rattle.irig_guarding.specs.{Trial.Tries, SafeBy.IsSafeBy, Fillings.Fills, Known.AreKnown};
-ghost use Rattle.irig_guarding.specs.Agreeing.{AreBars, HasLedTo};
+ghost use Rattle.irig_guarding.specs.{Agreeing.HasLedTo, Bars.AreBars, Bars.AreKept};
 ghost use Rattle.irig_guarding.specs.Judged.{is_judged_by};
 ghost use Rattle.irig_guarding.specs.Reading.{Lists, original_of};
 ghost use Rattle.irig_guarding.specs.{Reasons.head_lines, Repair.texts};
@@ -12,11 +12,12 @@ ghost use Rattle.irig_script.specs.Obey.Run.{unlines};
 ghost use Rattle.irig_script.specs.declared.obey.status.Status.TheVariants.{SomeRefused};
 ghost use Rattle.irig_script.specs.{Obey.Machine.Machine};
 
-use crate::bars::{KeptAt, bar_at, kept_at};
+use crate::bars::bar_at;
 use crate::commands::is_lone_comment;
 use crate::cutting::repair_end;
 use crate::fillings::count_filled;
 use crate::judging::is_judged;
+use crate::kept::{KeptAt, add_kept};
 use crate::known::{learn_markers, nothing_known};
 use crate::line::Line;
 use crate::mending::keep_if_safe;
@@ -42,7 +43,10 @@ pub fn guard_once(
 ) -> Result<(Vec<u8>, Kept), AllocError>
     requires closed { session.old.floor ≡ None }
     requires opened { opened.now ≡ original_of opened.now.terms session.old.state }
-    requires bars { AreBars opened.now.pulses session.old.state.format bars.now }
+    requires bars { AreBars opened.now.pulses session.old.state.format (texts lines.now) bars.now }
+    requires kept { kept.old.items ≡ [] }
+    ensures kept { (first : Machine) → IsUndone first session.old
+        → OnOk result (AreKept first (texts lines.now) kept.new.items session.new) }
     ensures reaches { (first : Machine) → IsUndone first session.old
         → IfOk result (λ done. Reaches first done.0.items session.new) }
     ensures closed { OnOk result (session.new.floor ≡ None) }
@@ -97,10 +101,13 @@ fn guard_lines(
     requires known { AreKnown opened.now session.old.state.pulses known_markers.old.items }
     requires lists { Lists session.old.state last.old }
     requires opened { opened.now ≡ original_of opened.now.terms session.old.state }
-    requires bars { AreBars opened.now.pulses session.old.state.format bars.now }
+    requires bars { AreBars opened.now.pulses session.old.state.format (texts lines.now) bars.now }
+    requires kept { kept.old.items ≡ [] }
     requires head { out.old.items ≡ unlines (head_lines opened.now.frames) }
     ensures stands { (first : Machine) → IsUndone first session.old
         → OnOk result (Reaches first out.new.items session.new) }
+    ensures kept { (first : Machine) → IsUndone first session.old
+        → OnOk result (AreKept first (texts lines.now) kept.new.items session.new) }
     ensures closed { OnOk result (session.new.floor ≡ None) }
     ensures lists { OnOk result (Lists session.new.state last.new) }
     ensures safe { OnOk result (IsSafeAfter opened.now.terms session.old.state
@@ -123,18 +130,11 @@ fn guard_lines(
             bar_at(bars, at),
             out,
         )?;
-        if is_repair(&lines[at..end], dropped) {
-            kept.push(kept_at(session, at))?;
-        }
+        add_kept(kept, session, &lines[at..end], dropped, at)?;
         status = status_with(status, dropped);
         at = end;
     }
     Ok(status)
-}
-
-/// Whether lines that were tried are a repair that was kept.
-fn is_repair(lines: &[Line<'_>], dropped: Option<Reason>) -> bool {
-    dropped.is_none() && !is_lone_comment(lines)
 }
 
 /// The status after one more repair.
@@ -163,7 +163,7 @@ fn guard_repair(
     requires lists { Lists session.old.state last.old }
     requires safe { IsSafeBy opened.now session.old.state }
     requires barred { IfSome barred (λ why. HasLedTo opened.now.pulses session.old.state.format
-        why) }
+        (texts repair.now) why) }
     ensures safe { IsSafeBy opened.now session.new.state }
     ensures closed { session.new.floor ≡ None }
     ensures format { session.new.state.format ≡ session.old.state.format }
@@ -196,7 +196,7 @@ fn try_repair(
     requires lists { Lists session.old.state last.old }
     requires safe { IsSafeBy opened.now session.old.state }
     requires barred { IfSome barred (λ why. HasLedTo opened.now.pulses session.old.state.format
-        why) }
+        (texts repair.now) why) }
     ensures safe { IsSafeBy opened.now session.new.state }
     ensures closed { session.new.floor ≡ None }
     ensures format { session.new.state.format ≡ session.old.state.format }

@@ -14,6 +14,7 @@ mod frame_text;
 mod guarding;
 mod holding;
 mod judging;
+mod kept;
 mod known;
 mod law;
 mod line;

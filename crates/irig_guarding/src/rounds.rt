@@ -8,7 +8,7 @@ ghost use Rattle.irig_guarding.specs.Guarded.{IsGuarded, IsSafeAfter, Reaches};
 ghost use Rattle.irig_guarding.specs.{Trials.IsTried, Trials.IsTriedBefore, Fillings.Fills};
 ghost use Rattle.irig_guarding.specs.{Judged.is_judged_by, Reading.original_of, Repair.texts};
 
-use crate::bars::{bar_near, no_bars};
+use crate::bars::bar_near;
 use crate::copying::track_of;
 use crate::guarding::guard_once;
 use crate::line::Line;
@@ -86,7 +86,7 @@ fn guard_until_agreed(
         session.new.state) }
 {
     let steps = session.steps_back();
-    let mut bars = no_bars(alloc, lines.len())?;
+    let mut bars = Vec::new(alloc);
     let mut times = 1u64;
     for _round in 0..ROUNDS {
         let mut kept = Vec::new(alloc);
@@ -95,7 +95,7 @@ fn guard_until_agreed(
         if faults.is_empty() {
             return Ok(done);
         }
-        bar_near(&mut bars, &kept, opened.frames(), &faults, times);
+        bar_near(&mut bars, &kept, opened.frames(), &faults, times)?;
         times = times.saturating_mul(2);
         undo_to(session, steps);
     }

@@ -1,7 +1,8 @@
 use Rattle.std.proofs.Common.{◌∙◌, arith, refl}
-use Rattle.irig_guarding.proofs.BarLemmas.{bar_so}
+use Rattle.irig_guarding.proofs.BarLemmas.{bar_so, kept_none, kept_step, repair_here}
 use Rattle.irig_guarding.proofs.GuardLemmas.{safe_at_first, safe_then, stands_head, stands_tried}
 use Rattle.irig_guarding.proofs.TrialLemmas.{known_first, tried_all, tried_none, tried_step}
+use Rattle.irig_guarding.specs.Repair.{texts}
 use Rattle.irig_guarding.proofs.guarding.guard_lines.Goals as goal
 
 pub loop-at-init : goal.loop-at-init
@@ -14,12 +15,14 @@ loop-at-init c = (
   c.requires.known,
   λ first undone. tried_none first c.args.session.now c.args.opened.now _ _ undone c.requires.opened c.requires.head,
   c.requires.lists,
+  λ first undone. kept_none first c.args.session.now (texts c.args.lines.now) c.args.kept.now.items c.requires.kept,
 )
 
 pub guard_repair-requires-clause-barred : goal.guard_repair-requires-clause-barred
 guard_repair-requires-clause-barred c =
-    bar_so c.args.opened.now.pulses c.args.session.now.state.format c.loop-at.session.state.format c.args.bars.now c.loop-at.at _ c.bar_at.ensures
-    c.requires.bars c.loop-at.invariant.2
+    bar_so c.args.opened.now.pulses c.args.session.now.state.format c.loop-at.session.state.format (texts c.args.lines.now) _ c.args.bars.now c.loop-at.at _
+    c.bar_at.ensures c.requires.bars
+    (repair_here c.args.lines.now c.loop-at.at _ c.repair_end-end.ensures.more c.repair_end-end.ensures.cut) c.loop-at.invariant.2
 
 pub loop-at-preserved : goal.loop-at-preserved
 loop-at-preserved c =
@@ -35,6 +38,10 @@ loop-at-preserved c =
           c.repair_end-end.ensures.cut
           c.in_ok-dropped.ensures.tried c.in_ok-dropped.ensures.printed c.status_with-status.ensures,
       c.guard_repair.ensures.lists,
+      λ first undone. kept_step c.args.opened.now first _ _ _ (texts c.args.lines.now) _ _ c.loop-at.kept.items _ c.loop-at.at c.in_ok-dropped.ensures.tried
+          (s.0 first undone)
+          (repair_here c.args.lines.now c.loop-at.at _ c.repair_end-end.ensures.more c.repair_end-end.ensures.cut) c.in_ok-add_kept.ensures.kept
+          (s.8 first undone),
     )
 
 pub returns-clause-stands : goal.returns-clause-stands
@@ -45,6 +52,9 @@ returns-clause-closed c = c.loop-at.invariant.3
 
 pub returns-clause-lists : goal.returns-clause-lists
 returns-clause-lists c = c.loop-at.invariant.7
+
+pub returns-clause-kept : goal.returns-clause-kept
+returns-clause-kept c = c.loop-at.invariant.8
 
 pub returns-clause-safe : goal.returns-clause-safe
 returns-clause-safe c =

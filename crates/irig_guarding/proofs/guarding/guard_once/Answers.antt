@@ -5,3 +5,6 @@ returns-clause-reaches c = c.in_ok-status.ensures.stands
 
 pub returns-clause-tried : goal.returns-clause-tried
 returns-clause-tried c = c.in_ok-status.ensures.tried
+
+pub returns-clause-kept : goal.returns-clause-kept
+returns-clause-kept c = c.in_ok-status.ensures.kept

@@ -1,15 +1,19 @@
-use Rattle.std.proofs.Common.{◌∙◌, List, ap, arith, refl, slice_get, subst, sym}
+use Rattle.std.proofs.Common.{◌∙◌, List, Option, ap, arith, refl, slice_get, subst, sym}
 use Rattle.irig_edit.specs.State.State.{State}
 use Rattle.irig_agreement.specs.declared.fault.Fault.{Fault}
 use Rattle.irig_safety.specs.Original.{OriginalView}
-use Rattle.irig_guarding.specs.{Guarded.IsSafeAfter, Judged.is_judged_by, Reading.original_of}
-use Rattle.irig_guarding.proofs.{BackLemmas.reached_back, BarLemmas.agree_so, BarLemmas.bars_here, BarLemmas.empty_of, BarLemmas.led_to}
+use Rattle.irig_guarding.specs.{Bars.AreBars, Guarded.IsSafeAfter, Judged.is_judged_by, Reading.original_of, Repair.texts}
+use Rattle.irig_guarding.proofs.{BackLemmas.reached_back, BarLemmas.agree_so, BarLemmas.bars_here, BarLemmas.bars_none, BarLemmas.empty_of, BarLemmas.have_led_to}
 use Rattle.irig_guarding.proofs.UndoneLemmas.{undone_work}
 use Rattle.irig_guarding.proofs.rounds.guard_until_agreed.Goals as goal
 
 pub loop-round-init : goal.loop-round-init
-loop-round-init c =
-    (undone_work c.args.session.now c.args.session.now refl, c.in_ok-bars.ensures c.args.opened.now.pulses c.args.session.now.state.format)
+loop-round-init c = (
+  undone_work c.args.session.now c.args.session.now refl,
+  subst (λ (l : List (Option Fault)). AreBars c.args.opened.now.pulses c.args.session.now.state.format (texts c.args.lines.now) l)
+      (sym c.new-bars.ensures.items)
+      (bars_none c.args.opened.now.pulses c.args.session.now.state.format (texts c.args.lines.now)),
+)
 
 pub guard_once-requires-clause-closed : goal.guard_once-requires-clause-closed
 guard_once-requires-clause-closed c = c.loop-round.invariant.0.same.floor ∙ c.requires.closed
@@ -19,7 +23,7 @@ guard_once-requires-clause-opened c = c.requires.opened ∙ ap (original_of c.ar
 
 pub guard_once-requires-clause-bars : goal.guard_once-requires-clause-bars
 guard_once-requires-clause-bars c =
-    bars_here c.args.opened.now.pulses c.args.session.now.state.format c.loop-round.session.state.format c.loop-round.bars.items _
+    bars_here c.args.opened.now.pulses c.args.session.now.state.format c.loop-round.session.state.format _ c.loop-round.bars.items _
     (ap (λ (s : State). s.format) c.loop-round.invariant.0.same.state) c.deref.ensures.value c.loop-round.invariant.1
 
 pub returns-then-is_empty-clause-reaches : goal.returns-then-is_empty-clause-reaches
@@ -46,10 +50,12 @@ returns-then-is_empty-clause-agrees c = λ unmoved.
 pub loop-round-preserved : goal.loop-round-preserved
 loop-round-preserved c =
     let first = c.args.session.now in
-    let reached = c.in_ok-done.ensures.reaches first c.loop-round.invariant.0 in (
+    let reached = c.in_ok-done.ensures.reaches first c.loop-round.invariant.0 in
+    let kept = c.in_ok-done.ensures.kept first c.loop-round.invariant.0 in (
       c.undo_to.ensures first c.requires.closed c.steps_back-steps.ensures (reached_back first _ _ c.requires.closed reached),
-      c.bar_near.ensures c.args.opened.now.pulses first.state.format
-          (λ i why e. led_to first _ _ c.args.recorded.now _ why (ap (λ (o : OriginalView). o.pulses) c.requires.opened) c.requires.recorded reached
+      c.in_ok-bar_near.ensures c.args.opened.now.pulses first.state.format (texts c.args.lines.now)
+          (λ i why e. have_led_to first _ _ c.args.recorded.now _ _ _ why c.deref-in-loop-round.ensures.value
+          (ap (λ (o : OriginalView). o.pulses) c.requires.opened) c.requires.recorded kept
           (c.in_ok-faults.ensures.faults i why (ap (λ (l : List Fault). slice_get l i) (sym c.deref-in-loop-round-2.ensures.value) ∙ e)))
           c.loop-round.invariant.1,
     )
