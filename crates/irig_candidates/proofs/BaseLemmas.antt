@@ -42,7 +42,8 @@ put-one below most xs ys new p x known same is high room within lower higher unl
     }
 
 -- a table with one more value
-pub table-more : (F : ℕ → ℕ) (xs ys : List ℕ) (n x : ℕ) → ys ≡ xs ++ (x ∷ []) → xs ≡ map F (range_with_len 0 n) → x ≡ F n → ys ≡ map F (range_with_len 0 (n + 1))
+pub table-more : (F : ℕ → ℕ) (xs ys : List ℕ) (n x : ℕ) → ys ≡ xs ++ (x ∷ []) → xs ≡ map F (range_with_len 0 n) → x ≡ F n
+    → ys ≡ map F (range_with_len 0 (n + 1))
 table-more F xs ys n x e h w =
     let own : 0 + n ≡ n = omega arith in
     e ∙ ap (λ (zs : List ℕ). zs ++ (x ∷ [])) h ∙ ap (λ y. map F (range_with_len 0 n) ++ (y ∷ [])) w ∙ sym (map-range_with_len_more F 0 n n own)

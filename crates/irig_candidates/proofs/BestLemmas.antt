@@ -25,8 +25,9 @@ least-more f bits (Some x) xs i new h least own less =
     let Q : ℕ → Type 0 = λ other. x.cost ≤ cost_of f other bits in
     All-more P xs i 0 h (All-weaker Q P (λ other k. omega (arith, k, less)) (take i xs) least) own
 
-pub least-end : (f : FormatView) (bits : List Bit) (best : Option Found) (found : Found) (xs : List ℕ) (i : ℕ) → best ≡ Some found → IfSome best (IsExact f bits)
-    → MatchOption best (i ≡ 0) (IsLeast f bits (take i xs)) → length xs ≤ i → All (λ other. cost_of f found.base bits ≤ cost_of f other bits) xs
+pub least-end : (f : FormatView) (bits : List Bit) (best : Option Found) (found : Found) (xs : List ℕ) (i : ℕ) → best ≡ Some found
+    → IfSome best (IsExact f bits) → MatchOption best (i ≡ 0) (IsLeast f bits (take i xs)) → length xs ≤ i
+    → All (λ other. cost_of f found.base bits ≤ cost_of f other bits) xs
 least-end f bits best found xs i is exact least end =
     let P : ℕ → Type 0 = λ other. cost_of f found.base bits ≤ cost_of f other bits in
     let Q : ℕ → Type 0 = λ other. found.cost ≤ cost_of f other bits in

@@ -158,7 +158,8 @@ step w x rest r e k = elim (leb_tells 1 w) [
 
 pub first-positive : (c s m h d b : ℕ) (r : Row) → Some r ≡ first_row c s m h d b → 0 < r.weight
 first-positive c s m h d b r e =
-    step c Hundredths _ r e (λ e. step s Seconds _ r e (λ e. step m Minutes _ r e (λ e. step h Hours _ r e (λ e. step d Days _ r e (λ e. step b Sbs _ r e (λ e. cc))))))
+    step c Hundredths _ r e (λ e. step s Seconds _ r e (λ e. step m Minutes _ r e (λ e. step h Hours _ r e
+    (λ e. step d Days _ r e (λ e. step b Sbs _ r e (λ e. cc))))))
 
 in-positive : (g : Fields) (r : Row) → Some r ≡ row_in g → 0 < r.weight
 in-positive g r e = first-positive (unwrap_or g.hundredths 0) g.seconds g.minutes g.hours g.days (unwrap_or g.sbs 0) r e

@@ -216,7 +216,8 @@ rows-more f rs n v h e w =
     ap (λ j. take j (set rs n v)) (sym next) ∙ take-suc-set rs n v h ∙ ap (λ xs. xs ++ (v ∷ [])) e
     ∙ ap (λ x. map (row_at f) (range_with_len 0 n) ++ (x ∷ [])) w ∙ sym (map-range_with_len_more (row_at f) 0 n n own)
 
-pub rows-end : (f : FormatView) (rs : List (Option Row)) (n : ℕ) → n ≡ 100 → length rs ≡ 100 → take n rs ≡ map (row_at f) (range_with_len 0 n) → rs ≡ rows_of_code f
+pub rows-end : (f : FormatView) (rs : List (Option Row)) (n : ℕ) → n ≡ 100 → length rs ≡ 100 → take n rs ≡ map (row_at f) (range_with_len 0 n)
+    → rs ≡ rows_of_code f
 unfolding rows_of_code
 rows-end f rs n here long e =
     sym (take_all 100 rs (omega (arith, long))) ∙ ap (λ j. take j rs) (sym here) ∙ e ∙ ap (λ j. map (row_at f) (range_with_len 0 j)) here

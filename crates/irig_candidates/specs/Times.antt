@@ -1,5 +1,5 @@
--- The times of frames, counted in frames from the begin of a year that no field names, so it has 366
--- days. After IRIG Standard 200-04; how a second 60 is counted is this project's own.
+-- The times of frames, counted in frames from the begin of a year that no field names, so it has
+-- 366 days. After IRIG Standard 200-04; how a second 60 is counted is this project's own.
 use Rattle.std.specs.Prelude.{ℕ, ◌+◌, ◌*◌, ◌/◌, ◌%◌, ◌||◌, nat_le, nat_lt}
 use Rattle.std.specs.Prelude.{Bool, if◌then◌else◌}
 use Rattle.irig_codes.specs.declared.format.Kind.{Kind}

@@ -3,11 +3,9 @@
 ghost use Rattle.std.specs.Prelude.{◌^◌, ◌≤◌, IfOk, OnOk, length};
 ghost use Rattle.irig_candidates.specs.{Bases.AreBases};
 
-use crate::bases::put_base;
-use crate::best::best_base;
 use crate::bit::Bit;
 use crate::code::Code;
-use crate::finding::find_bases;
+use crate::finding::{best_base, find_bases, put_base};
 use crate::jumps::{Jumps, Shifts};
 use std::alloc::{AllocError, Global};
 
@@ -50,7 +48,8 @@ fn block_of(bits: &[Bit]) -> usize
     bits.len()
 }
 
-/// The blocks of all bits, each with the bases that are found in it and carried from the one before.
+/// The blocks of all bits, each with the bases that are found in it, or carried from the one
+/// before.
 pub fn found_blocks<J: Jumps + Shifts>(
     alloc: Global,
     code: &Code,

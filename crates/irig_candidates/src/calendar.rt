@@ -110,7 +110,6 @@ fn fields_since(format: Format, since: u32, inserted: u32) -> Fields
     }
 }
 
-/// Whether a frame can have a time.
 pub fn is_time(kind: Kind, time: u64) -> bool
     ensures { result ≡ is_time kind time }
 {
@@ -118,7 +117,6 @@ pub fn is_time(kind: Kind, time: u64) -> bool
     time < inserted(kind) || minute <= time % minute + second(kind)
 }
 
-/// The time of a frame of a stretch, by that of frame 0, its base.
 pub fn time(kind: Kind, base: u64, frame: u64) -> u64
     ensures value { result ≡ time_of kind base frame }
     ensures small { result < 2 ^ 34 }
@@ -206,8 +204,6 @@ fn far_with_inserted(kind: Kind, time: u64, next: u64, count: u64, other: u64) -
     }
 }
 
-/// How far a time is from those that can come some frames after another. Frames count with both: 1
-/// is that of the other time itself.
 pub fn far(kind: Kind, time: u64, count: u64, other: u64) -> u64
     ensures value { result ≡ far kind time count other }
     ensures small { result < 2 ^ 32 }

@@ -3,13 +3,16 @@
 ghost use Rattle.std.specs.Prelude.{◌^◌, ◌≤◌, IfOk, IfSome, OnOk, length, vec_len};
 ghost use Rattle.irig_candidates.specs.Found.{AreFound, IsFound};
 
-use crate::beam::put;
+mod beam;
+mod tables;
+
 use crate::bit::Bit;
+use crate::cheapest::beam::put;
+use crate::cheapest::tables::{Table, Values, cost_at, put_tables};
 use crate::code::Code;
 use crate::found::Found;
 use crate::pair::Pair;
 use crate::row::Field;
-use crate::tables::{Table, Values, cost_at, put_tables};
 use std::alloc::{AllocError, Global};
 
 const HUNDREDTHS: Values = Values {
@@ -47,8 +50,8 @@ const DAYS: Values = Values {
     unit: 8_640_000,
 };
 
-/// Two bases that cost little by bits of some frames, with what they cost. Nothing promises that none
-/// is cheaper: of each field only the best values are kept, with those of the finer fields.
+/// Two bases that cost little by bits of some frames, with what they cost. Nothing promises that
+/// none is cheaper: of each field only the best values are kept, with those of the finer fields.
 pub fn cheapest_bases(alloc: Global, code: &Code, bits: &[Bit]) -> Result<Option<Pair>, AllocError>
     requires { length bits.now ≤ 2 ^ 30 }
     ensures { IfOk result (λ o. IfSome o (AreFound code.now bits.now)) }

@@ -174,8 +174,8 @@ impl Code {
         calendar::since(self.format.kind(), self.time(base, frame))
     }
 
-    /// How far a time is from those that can come some frames after another. Frames count with both:
-    /// 1 is that of the other time itself.
+    /// How far a time is from those that can come some frames after another. Frames count with
+    /// both: 1 is that of the other time itself.
     pub fn far(&self, time: u64, count: u64, other: u64) -> u64
         ensures value { result ≡ far self.now.kind time count other }
         ensures small { result < 2 ^ 32 }

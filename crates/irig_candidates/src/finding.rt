@@ -1,19 +1,28 @@
-//! The bases that what a block looks like does not exclude: they cost less in some of its frames than a
-//! base that is known, and than a jump from that.
+//! The bases that what a block looks like does not exclude: they cost less in some of its frames
+//! than a base that is known, and than a jump from that.
 
 ghost use Rattle.std.specs.Prelude.{◌^◌, ◌<◌, ◌≤◌, IfOk, IfSome, OnOk, length};
 ghost use Rattle.irig_candidates.specs.{Bases.AreBases, Found.IsPair};
 
-use crate::bases::put_base;
+mod bases;
+mod best;
+mod near;
+
 use crate::bit::Bit;
 use crate::cheapest::cheapest_bases;
 use crate::code::Code;
 use crate::found::Found;
 use crate::frames::bits_of;
 use crate::jumps::Jumps;
-use crate::near::{jumped_pair, near};
 use crate::pair::Pair;
+use bases::put_below;
+pub use bases::{put_base, put_few};
+pub use best::best_base;
+use near::{jumped_pair, near_pair};
 use std::alloc::{AllocError, Global};
+
+/// The frames of the longest window; each further one has half as many.
+const BLOCK: usize = 32;
 
 /// How many frames from a known base are looked at, on each side.
 pub const NEAR: u64 = 99;
@@ -30,9 +39,11 @@ pub fn find_bases<J: Jumps>(
     ensures { IfOk result (λ bases. AreBases code.now.kind bases.items) }
 {
     let mut bases = first_bases(alloc, code, bits, carried)?;
-    look_in(alloc, code, jumps, bits, 32, 16, &mut bases)?;
-    look_in(alloc, code, jumps, bits, 8, 4, &mut bases)?;
-    look_in(alloc, code, jumps, bits, 1, 1, &mut bases)?;
+    let mut frames = BLOCK;
+    while 1 <= frames {
+        look_in(alloc, code, jumps, bits, frames, &mut bases)?;
+        frames /= 2;
+    }
     Ok(bases)
 }
 
@@ -56,22 +67,21 @@ fn first_bases(
     Ok(bases)
 }
 
-/// Looks in windows of some frames, each one `step` frames after the one before it.
+/// Looks in windows of some frames, each one half a window after the one before it.
 fn look_in<J: Jumps>(
     alloc: Global,
     code: &Code,
     jumps: &J,
     bits: &[Bit],
     frames: usize,
-    step: usize,
     bases: &mut Vec<u64>,
 ) -> Result<(), AllocError>
     requires few { length bits.now ≤ 2 ^ 30 }
     requires window { 1 ≤ frames }
-    requires on { 1 ≤ step }
     requires known { AreBases code.now.kind bases.old.items }
     ensures { OnOk result (AreBases code.now.kind bases.new.items) }
 {
+    let step = (frames / 2).max(1);
     let mut rest = bits;
     while !rest.is_empty() {
         let window = &rest[..bits_of(rest, frames)];
@@ -180,8 +190,8 @@ fn look_from_both<J: Jumps>(
     }
 }
 
-/// Puts the bases that cost less in a window than a known one, with the jump to them: of the near ones,
-/// and of those that cost least of all.
+/// Puts the bases that cost less in a window than a known one, with the jump to them: of the near
+/// ones, and of those that cost least of all.
 fn look_from<J: Jumps>(
     code: &Code,
     jumps: &J,
@@ -196,48 +206,17 @@ fn look_from<J: Jumps>(
     ensures { OnOk result (AreBases code.now.kind bases.new.items) }
 {
     let most = code.cost(base, window).saturating_add(set);
-    put_below(code, near(code, jumps, window, base, most), most, bases)?;
+    put_below(
+        code,
+        near_pair(code, jumps, window, base, most),
+        most,
+        bases,
+    )?;
     match anywhere {
         None => Ok(()),
         Some(pair) => {
             let pair = jumped_pair(code, jumps, window, base, pair, most);
             put_below(code, pair, most, bases)
         }
-    }
-}
-
-/// Puts those of a pair that cost less than that.
-fn put_below(
-    code: &Code,
-    pair: Option<Pair>,
-    most: u64,
-    bases: &mut Vec<u64>,
-) -> Result<(), AllocError>
-    requires { AreBases code.now.kind bases.old.items }
-    ensures { OnOk result (AreBases code.now.kind bases.new.items) }
-{
-    let Some(pair) = pair else {
-        return Ok(());
-    };
-    put_if_below(code, pair.first, most, bases)?;
-    match pair.second {
-        None => Ok(()),
-        Some(second) => put_if_below(code, second, most, bases),
-    }
-}
-
-fn put_if_below(
-    code: &Code,
-    found: Found,
-    most: u64,
-    bases: &mut Vec<u64>,
-) -> Result<(), AllocError>
-    requires { AreBases code.now.kind bases.old.items }
-    ensures { OnOk result (AreBases code.now.kind bases.new.items) }
-{
-    if found.cost < most {
-        put_base(code, bases, found.base)
-    } else {
-        Ok(())
     }
 }

@@ -3,10 +3,10 @@
 ghost use Rattle.std.specs.Prelude.{◌^◌, ◌<◌, ◌≤◌, IfOk, OnOk, length};
 ghost use Rattle.irig_candidates.specs.{Bases.IsSet, Sets.AreSets};
 
-use crate::bases::put_few;
 use crate::bit::Bit;
 use crate::blocks::{Block, carried_back, found_blocks, united};
 use crate::code::Code;
+use crate::finding::put_few;
 use crate::frames::begins;
 use crate::jumps::{Jumps, Shifts};
 use std::alloc::{AllocError, Global};
@@ -90,7 +90,7 @@ fn frame_set(alloc: Global, code: &Code, bases: &[u64], frame: u64) -> Result<Ve
     Ok(set)
 }
 
-/// Puts a base, and those of a second 60 and of the turn of the year that frames next to it can have.
+/// Puts a base, and those with which the time can continue in a second 60 or another year.
 fn put_base(code: &Code, set: &mut Vec<u64>, base: u64, frame: u64) -> Result<(), AllocError>
     requires { IsSet set.old.items }
     ensures { OnOk result (IsSet set.new.items) }
@@ -120,7 +120,8 @@ fn put_inserted(code: &Code, set: &mut Vec<u64>, base: u64, frame: u64) -> Resul
     }
 }
 
-/// The bases of each block, with those that are carried back from the next one: the last block first.
+/// The bases of each block, with those that are carried back from the next one. The last block is
+/// the first one.
 fn with_next<J: Shifts>(
     alloc: Global,
     code: &Code,

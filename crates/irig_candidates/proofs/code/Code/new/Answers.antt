@@ -4,7 +4,8 @@ use Rattle.irig_candidates.proofs.code.Code.new.Goals as goal
 
 pub loop-element-preserved : goal.loop-element-preserved
 loop-element-preserved c = record {
-  done = rows-more c.args.format c.loop-element.rows c.loop-element.element c.carried.result (omega (arith, c.loop-element.invariant.long, c.loop-element-test.true))
+  done = rows-more c.args.format c.loop-element.rows c.loop-element.element c.carried.result
+      (omega (arith, c.loop-element.invariant.long, c.loop-element-test.true))
       c.loop-element.invariant.done c.carried.ensures;
   long = simp length-set c.loop-element.invariant.long;
 }

@@ -1,6 +1,6 @@
 use Rattle.std.proofs.Common.{arith}
 use Rattle.irig_candidates.proofs.BestLemmas.{least-end, least-more}
-use Rattle.irig_candidates.proofs.best.best_base.Goals as goal
+use Rattle.irig_candidates.proofs.finding.best.best_base.Goals as goal
 
 pub loop-base-preserved : goal.loop-base-preserved
 loop-base-preserved c = record {

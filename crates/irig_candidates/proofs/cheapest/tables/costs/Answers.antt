@@ -1,7 +1,7 @@
 use Rattle.std.proofs.Common.{◌+◌, arith}
 use Rattle.irig_candidates.specs.{Bits.value_cost, Rows.field_of}
 use Rattle.irig_candidates.proofs.BaseLemmas.{table-more}
-use Rattle.irig_candidates.proofs.tables.costs.Goals as goal
+use Rattle.irig_candidates.proofs.cheapest.tables.costs.Goals as goal
 
 pub loop-value-preserved : goal.loop-value-preserved
 loop-value-preserved c = record {

@@ -4,6 +4,8 @@ ghost use Rattle.std.specs.Prelude.{ℕ, ◌≡◌, ◌<◌, ◌≤◌, IsFalse,
 ghost use Rattle.irig_candidates.specs.{Bases.AreBases, Bases.AreFew};
 
 use crate::code::Code;
+use crate::found::Found;
+use crate::pair::Pair;
 use std::alloc::AllocError;
 
 /// How many bases a block has at most. More than 7 have been seen in recordings of noise alone.
@@ -35,6 +37,42 @@ fn is_full(bases: &[u64], most: usize) -> bool
     ensures { IsFalse result → length bases.now < most }
 {
     most <= bases.len()
+}
+
+/// Puts those of a pair that cost less than that.
+pub fn put_below(
+    code: &Code,
+    pair: Option<Pair>,
+    most: u64,
+    bases: &mut Vec<u64>,
+) -> Result<(), AllocError>
+    requires { AreBases code.now.kind bases.old.items }
+    ensures { OnOk result (AreBases code.now.kind bases.new.items) }
+{
+    let Some(pair) = pair else {
+        return Ok(());
+    };
+    put_if_below(code, pair.first, most, bases)?;
+    match pair.second {
+        None => Ok(()),
+        Some(second) => put_if_below(code, second, most, bases),
+    }
+}
+
+fn put_if_below(
+    code: &Code,
+    found: Found,
+    most: u64,
+    bases: &mut Vec<u64>,
+) -> Result<(), AllocError>
+    requires { AreBases code.now.kind bases.old.items }
+    ensures { OnOk result (AreBases code.now.kind bases.new.items) }
+{
+    if found.cost < most {
+        put_base(code, bases, found.base)
+    } else {
+        Ok(())
+    }
 }
 
 /// How many are less than it.

@@ -1,6 +1,6 @@
 use Rattle.std.proofs.Common.{◌≡◌}
 use Rattle.irig_candidates.proofs.BaseLemmas.{put-one}
-use Rattle.irig_candidates.proofs.bases.put_few.Goals as goal
+use Rattle.irig_candidates.proofs.finding.bases.put_few.Goals as goal
 
 pub returns : goal.returns
 returns c =

@@ -1,7 +1,7 @@
 use Rattle.std.proofs.Common.{◌≡◌, ◌+◌, map, vec_len}
 use Rattle.std.specs.List.{range_with_len}
 use Rattle.irig_candidates.specs.{Bits.value_cost, Rows.field_of}
-use Rattle.irig_candidates.proofs.tables.costs.Given as goal
+use Rattle.irig_candidates.proofs.cheapest.tables.costs.Given as goal
 
 abbrev pub invariant-loop-value : goal.invariant-loop-value
 invariant-loop-value l = record {

@@ -11,7 +11,13 @@ use crate::jumps::Jumps;
 use crate::pair::Pair;
 
 /// The two near ones that cost least, of those that cost less than that.
-pub fn near<J: Jumps>(code: &Code, jumps: &J, bits: &[Bit], base: u64, most: u64) -> Option<Pair>
+pub fn near_pair<J: Jumps>(
+    code: &Code,
+    jumps: &J,
+    bits: &[Bit],
+    base: u64,
+    most: u64,
+) -> Option<Pair>
     requires { length bits.now ≤ 2 ^ 30 }
     ensures { IfSome result IsPair }
 {

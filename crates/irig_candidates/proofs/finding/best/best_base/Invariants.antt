@@ -1,6 +1,6 @@
 use Rattle.std.proofs.Common.{◌≡◌, take, IfSome, MatchOption}
 use Rattle.irig_candidates.proofs.BestLemmas.{IsExact, IsLeast}
-use Rattle.irig_candidates.proofs.best.best_base.Given as goal
+use Rattle.irig_candidates.proofs.finding.best.best_base.Given as goal
 
 abbrev pub invariant-loop-base : goal.invariant-loop-base
 invariant-loop-base l = record {

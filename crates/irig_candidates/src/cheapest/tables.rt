@@ -10,8 +10,8 @@ use crate::frames::bits_of;
 use crate::row::Field;
 use std::alloc::{AllocError, Global};
 
-/// The values of a field: the first one, how many there are, and how many hundredths of a second each
-/// lasts.
+/// The values of a field: the first one, how many there are, and how many hundredths of a second
+/// each lasts.
 pub struct Values {
     pub field: Field,
     pub first: u32,
