@@ -1,0 +1,4 @@
+pub mod Claims
+pub mod Steps
+pub mod Gathered
+pub mod Sures

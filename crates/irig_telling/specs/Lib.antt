@@ -1,0 +1,9 @@
+pub mod Counting
+pub mod Looking
+pub mod Tallies
+pub mod Bits
+pub mod Fitting
+pub mod Jumps
+pub mod Dating
+pub mod Sides
+pub mod Told
