@@ -5,6 +5,7 @@ use Rattle.std.proofs.lemmas.Option.{none-some, same_Some}
 use Rattle.irig_codes.specs.Format.{FormatView}
 use Rattle.irig_recording.specs.declared.pulse.Pulse.{Pulse}
 use Rattle.irig_timed.specs.{Moments.frames_by, declared.moment.Moment.Moment}
+use Rattle.irig_agreement.specs.{Agreed.HasAgreed, declared.agreed.Agreed.Agreed}
 use Rattle.irig_agreement.specs.Agreement.{Agree, Agrees, IsAsked, IsTime, is_alike}
 use Rattle.irig_agreement.specs.{Changes.AreFaults, Changes.IsChange, Doubts.IsNextToDoubt}
 use Rattle.irig_agreement.specs.declared.fault.{Change.Change, Fault.Fault}
@@ -68,6 +69,9 @@ module _ (f : FormatView) (century : ℕ) (old new : List Pulse) where
 module _ (f : FormatView) (century : ℕ) (old old-too new new-too : List Pulse) (one : old ≡ old-too) (other : new ≡ new-too) where
   pub agrees-same : (m : ℕ) → Agrees f century old new m → Agrees f century old-too new-too m
   agrees-same m h = subst (λ (q : List Pulse). Agrees f century old-too q m) other (subst (λ (q : List Pulse). Agrees f century q new m) one h)
+
+  pub agreed-same : (a : Agreed) → HasAgreed f century old new a → HasAgreed f century old-too new-too a
+  agreed-same a h = λ m from to. agrees-same m (h m from to)
 
   pub faults-same : (list : List Fault) → AreFaults f century old new list → AreFaults f century old-too new-too list
   faults-same list h =

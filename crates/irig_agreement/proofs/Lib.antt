@@ -1,3 +1,4 @@
 mod ChangeFacts
 mod DoubtLists
 mod NearTimes
+mod SameRuns

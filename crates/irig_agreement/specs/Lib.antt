@@ -1,3 +1,4 @@
+pub mod Agreed
 pub mod Agreement
 pub mod Changes
 pub mod Doubts

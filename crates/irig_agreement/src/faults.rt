@@ -2,11 +2,13 @@
 
 ghost use Rattle.std.specs.Prelude.{◌≡◌, ◌≤◌, ◌^◌, ◌-◌, ◌↔◌, [], ℕ, false, IfOk, OnOk, Some, slice_get};
 ghost use Rattle.irig_timed.specs.Knowns.{IsKnown};
+ghost use Rattle.irig_agreement.specs.Agreed.{HasAgreed};
 ghost use Rattle.irig_agreement.specs.Agreement.{Agree, Agrees, IsAsked, IsAtRise};
 ghost use Rattle.irig_agreement.specs.Changes.{AreFaults, IsFault};
 ghost use Rattle.irig_agreement.specs.Recorded.{IsKept};
 ghost use Rattle.irig_agreement.specs.declared.fault.Fault.{Fault as SomeFault};
 
+use crate::agreed::{Agreed, NOWHERE, agreed_from, is_agreed};
 use crate::fault::Fault;
 use crate::judging::change_at;
 use crate::recorded::{Kept, Recorded, known_of};
@@ -79,12 +81,47 @@ fn add_faults(
     ensures before { before.new.track ≡ before.old.track }
     ensures after { after.new.track ≡ after.old.track }
 {
+    let mut agreed = NOWHERE;
     for number in 0..rises.len() {
         let rise = rises.pulse(number).rise;
-        add_fault(list, before, kept, after, known, rise.saturating_sub(1))?;
-        add_fault(list, before, kept, after, known, rise)?;
+        add_fault(
+            list,
+            before,
+            kept,
+            after,
+            known,
+            &agreed,
+            rise.saturating_sub(1),
+        )?;
+        agreed = agreed_at(before, kept, after, known, agreed, rise);
+        add_fault(list, before, kept, after, known, &agreed, rise)?;
     }
     Ok(())
+}
+
+/// Where both agree, if that has a moment; else where they do from there on.
+fn agreed_at(
+    before: &mut Lens<'_>,
+    kept: &Kept,
+    after: &mut Lens<'_>,
+    known: &Known,
+    agreed: Agreed,
+    moment: u64,
+) -> Agreed
+    requires kept { IsKept before.old.track.pulses kept.now }
+    requires known { IsKnown kept.now.format false kept.now.century after.old.track.pulses
+        known.now }
+    requires agreed { HasAgreed kept.now.format kept.now.century before.old.track.pulses
+        after.old.track.pulses agreed }
+    ensures agreed { HasAgreed kept.now.format kept.now.century before.old.track.pulses
+        after.old.track.pulses result }
+    ensures before { before.new.track ≡ before.old.track }
+    ensures after { after.new.track ≡ after.old.track }
+{
+    if is_agreed(&agreed, moment) {
+        return agreed;
+    }
+    agreed_from(before, kept, after, known, moment)
 }
 
 /// Adds the one at a moment, unless there is one in the frame period before it.
@@ -94,6 +131,7 @@ fn add_fault(
     kept: &Kept,
     after: &mut Lens<'_>,
     known: &Known,
+    agreed: &Agreed,
     moment: u64,
 ) -> Result<(), AllocError>
     requires moment { moment ≤ 2 ^ 40 }
@@ -102,6 +140,8 @@ fn add_fault(
         known.now }
     requires faults { AreFaults kept.now.format kept.now.century before.old.track.pulses
         after.old.track.pulses list.old.items }
+    requires agreed { HasAgreed kept.now.format kept.now.century before.old.track.pulses
+        after.old.track.pulses agreed.now }
     requires asked { IsAsked before.old.track.pulses after.old.track.pulses moment }
     ensures faults { OnOk result (AreFaults kept.now.format kept.now.century
         before.old.track.pulses after.old.track.pulses list.new.items) }
@@ -111,6 +151,9 @@ fn add_fault(
     ensures before { before.new.track ≡ before.old.track }
     ensures after { after.new.track ≡ after.old.track }
 {
+    if is_agreed(agreed, moment) {
+        return Ok(());
+    }
     if is_told(list, kept.format, moment) {
         return Ok(());
     }

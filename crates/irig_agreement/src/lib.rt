@@ -1,6 +1,7 @@
 //! Whether the times of a result are those of a recording.
 #![tactic(auto)]
 
+mod agreed;
 mod doubts;
 mod fault;
 mod faults;

@@ -4,6 +4,9 @@ use Rattle.irig_agreement.specs.Changes.{IsFault}
 use Rattle.irig_agreement.specs.declared.fault.Fault.{Fault}
 use Rattle.irig_agreement.proofs.faults.add_fault.Goals as goal
 
+pub returns-then-is_agreed-clause-none : goal.returns-then-is_agreed-clause-none
+returns-then-is_agreed-clause-none c e = (let is = c.is_agreed.ensures.0 c.if-is_agreed.true in (e, c.requires.agreed c.args.moment is.0 is.1))
+
 pub returns-then-is_told-clause-none : goal.returns-then-is_told-clause-none
 returns-then-is_told-clause-none c e = absurd (let no = c.is_told.ensures (c.deref.ensures.value ∙ e) in cc (no, c.if-is_told.true))
 
