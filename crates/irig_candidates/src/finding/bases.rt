@@ -8,7 +8,7 @@ use crate::found::Found;
 use crate::pair::Pair;
 use std::alloc::AllocError;
 
-/// How many bases a block has at most. More than 7 have been seen in recordings of noise alone.
+/// How many bases a block has at most: 28 were found in one of format E with much damage, else 7.
 const MOST: usize = 16;
 
 /// Puts a base of the year, if it is a new one, and there is room.
