@@ -99,7 +99,7 @@ fn guard_until_agreed(
         times = times.saturating_mul(2);
         undo_to(session, steps);
     }
-    // By then nothing is kept, and a recording agrees with itself.
+    // Repairs that exclude each other can ask for more rounds than this project allows.
     Err(AllocError)
 }
 
